@@ -1,0 +1,10 @@
+pub mod Chords
+pub mod Counts
+pub mod Neighbours
+pub mod Notes
+pub mod Paired
+pub mod Qualities
+pub mod Ranges
+pub mod Slashes
+pub mod Symbols
+pub mod Tally

@@ -1,0 +1,12 @@
+pub mod Adding
+pub mod Counts
+pub mod Filling
+pub mod Gapless
+pub mod Growing
+pub mod Meaning
+pub mod Members
+pub mod Order
+pub mod Placing
+pub mod Refusing
+pub mod Searching
+pub mod Written

@@ -1,0 +1,4 @@
+pub mod Arrangements
+pub mod Enumeration
+pub mod Search
+pub mod Tables

@@ -1,0 +1,5 @@
+pub mod Numbers
+pub mod RangeLines
+pub mod Telling
+pub mod Tokens
+pub mod Written
