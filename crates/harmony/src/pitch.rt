@@ -53,14 +53,7 @@ impl Pitch {
 }
 
 impl PitchClass {
-    // The class that many semitones above C, counted round the twelve.
-    pub const fn round(semitones: u8) -> PitchClass
-        ensures { λ r. ⌜ r .index ≡ around semitones ⌝ }
-    {
-        PitchClass {
-            index: semitones % 12,
-        }
-    }
+    pub const C: PitchClass = PitchClass { index: 0 };
 
     // The class that many semitones above this one.
     pub const fn above(self, semitones: u8) -> PitchClass

@@ -2,7 +2,7 @@
 ghost use mathlib.Core.Path.{_≡_};
 ghost use Rattle.harmony.specs.Refusals.{tells};
 
-#[derive(Clone, Copy, PartialEq, Eq, Debug)]
+#[derive(Clone, Copy)]
 pub enum Refusal {
     // the ranges are not three to six
     VoiceNumber,
@@ -47,7 +47,7 @@ pub enum Refusal {
 }
 
 // Where a chart is at fault: a byte offset, by rule.
-#[derive(Clone, Copy, PartialEq, Eq, Debug)]
+#[derive(Clone, Copy)]
 pub enum Fault {
     // offset 0
     ChartStart,

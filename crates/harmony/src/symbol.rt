@@ -33,7 +33,7 @@ fn letter(byte: u8) -> Option<PitchClass>
         'B' => 11,
         _ => return None,
     };
-    Some(PitchClass::round(semitones))
+    Some(PitchClass::C.above(semitones))
 }
 
 // A note's name at the front of a text: its class, and how many bytes the name has.

@@ -2,9 +2,8 @@
 ghost use Prim.Native.Nat.{_+_, _<_, _^_, _≤_};
 ghost use lib.Chars.{codes};
 ghost use lib.ListN.{drop, length, replicate, take};
-ghost use mathlib.Core.List.{map};
 ghost use mathlib.Core.Path.{_≡_};
-ghost use Rattle.harmony.specs.Ranges.{bounds};
+ghost use Rattle.harmony.specs.VoiceRanges.{ranges-of};
 ghost use Rattle.harmony.specs.declared.refusal.Refusal.the-variants.{MalformedHeading};
 ghost use Rattle.std.specs.Orderings.{When};
 ghost use Rattle.std.specs.Results.{Cases};
@@ -69,7 +68,7 @@ impl RangeLine {
 
     // The voices with these ranges, or the first rule that they break.
     pub fn voices(&self) -> Result<Voices, Refusal>
-        ensures { λ r. ⌜ Cases r (λ v. voices-within (now (self .entry) .count) (now (self .entry) .first) ≡ Ok (map bounds (take (v .count .number) (v .ranges)))) (λ e. voices-within (now (self .entry) .count) (now (self .entry) .first) ≡ Err e) ⌝ }
+        ensures { λ r. ⌜ Cases r (λ v. voices-within (now (self .entry) .count) (now (self .entry) .first) ≡ Ok (ranges-of v)) (λ e. voices-within (now (self .entry) .count) (now (self .entry) .first) ≡ Err e) ⌝ }
     {
         if self.count > 6 {
             return Err(Refusal::VoiceNumber);

@@ -5,7 +5,7 @@ use native.Mathlib.Omega.{arith}
 use borrow.Author.Needs.{needs}
 use Rattle.harmony.specs.Ranges.{paired}
 use Rattle.harmony.proofs.Paired.{length-paired, paired-more}
-use Rattle.harmony.proofs.voices.pairs.Needs as need
+use Rattle.harmony.proofs.voices.setting.pairs.Needs as need
 use Rattle.std.proofs.shelf.Lists.{take-all}
 
 pub loop-i-again : need.loop-i-again

@@ -5,7 +5,7 @@ use native.Mathlib.Omega.{arith}
 use borrow.Author.Needs.{needs}
 use Rattle.harmony.specs.Ranges.{bounds}
 use Rattle.harmony.proofs.Ranges.{bounds-more, proper-all, proper-fail, proper-more}
-use Rattle.harmony.proofs.voices.ranges_within.Needs as need
+use Rattle.harmony.proofs.voices.setting.ranges_within.Needs as need
 use Rattle.std.proofs.shelf.Lists.{take-all}
 
 pub returns-in-Break-ranges : need.returns-in-Break-ranges

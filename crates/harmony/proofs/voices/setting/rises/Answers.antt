@@ -2,7 +2,7 @@ use mathlib.Core.Path.{sym, _∙_}
 use native.Mathlib.Omega.{arith}
 use Rattle.harmony.specs.Ranges.{not-lower}
 use Rattle.harmony.proofs.Neighbours.{neighbours-more, neighbours-fail, neighbours-all}
-use Rattle.harmony.proofs.voices.rises.Needs as need
+use Rattle.harmony.proofs.voices.setting.rises.Needs as need
 
 pub returns-then-not-stands-on : need.returns-then-not-stands-on
 returns-then-not-stands-on c =
