@@ -1,15 +1,10 @@
 -- Bytes taken in pairs.
 use mathlib.Core.List.{List, [], _∷_, _++_}
 use mathlib.Core.Path.{_≡_, refl, ap, sym, _∙_}
-use Prim.Native.Nat.{ℕ, zero, suc, _+_, _*_, _/_, _%_, _<_}
+use Prim.Native.Nat.{ℕ, zero, suc, _+_, _*_, _/_, _<_}
 use lib.ListN.{length, getD, set, take}
 use native.Mathlib.Omega.{arith}
-use Rattle.harmony.specs.Ranges.{paired, set-up, voices-of}
-use Rattle.harmony.specs.declared.refusal.Refusal.the-variants.{VoiceNumber}
-use Rattle.harmony.proofs.Ranges.{voices-many}
-use Rattle.std.proofs.shelf.Tests.{cond-both, eq-eqb, eqb-true}
-use Rattle.std.specs.declared.result.Result.the-variants.{Err}
-use lib.Dec.{eqb}
+use Rattle.harmony.specs.Ranges.{paired}
 use Rattle.harmony.specs.declared.range.Bounds.{Bounds}
 use Rattle.std.proofs.shelf.Lists.{take-more, take-more-set}
 
@@ -35,16 +30,3 @@ paired-more bs ws i h k inv =
     let room : i < length (paired bs) = omega (arith, length-paired bs) in
     take-more-set ws i pair k ∙ ap (λ front. front ++ pair ∷ []) inv
     ∙ ap (λ b. take i (paired bs) ++ b ∷ []) (sym (getD-paired bs i d h)) ∙ sym (take-more (paired bs) i d room)
-
--- an even number of bytes is read by its pairs
-pub set-up-even : (bs : List ℕ) → length bs % 2 ≡ 0 → set-up bs ≡ voices-of (paired bs)
-set-up-even bs e = rw (eq-eqb (length bs % 2) 0 e)
-
--- an odd number, or more than twelve, is refused
-pub set-up-odd : (bs : List ℕ) → (length bs % 2 ≡ 0 → 12 < length bs) → set-up bs ≡ Err VoiceNumber
-set-up-odd bs no′ =
-    cond-both (eqb (length bs % 2) 0) (voices-of (paired bs)) (Err VoiceNumber) (λ r. r ≡ Err VoiceNumber)
-    (λ e. many (eqb-true (length bs % 2) 0 e)) (λ e. refl)
-  where
-    many : length bs % 2 ≡ 0 → voices-of (paired bs) ≡ Err VoiceNumber
-    many e = let h : 12 < length bs = no′ e in voices-many (paired bs) (omega (arith, length-paired bs))

@@ -1,30 +1,17 @@
 -- The rules of the ranges, one after the other.
 use mathlib.Core.Bool.{Bool, true, false, _&&_}
 use mathlib.Core.List.{List, [], _∷_, _++_, map}
-use mathlib.Core.Path.{_≡_, refl, ap, sym, _∙_}
+use mathlib.Core.Path.{_≡_, ap, sym, _∙_}
 use Prim.Native.Nat.{ℕ, _+_, _<_, _≤_}
 use lib.Dec.{leb}
 use lib.ListN.{length, getD, drop, set, take}
-use Rattle.harmony.specs.Ranges.{all-proper, bounds, proper, rising, three-to-six, voices-of}
+use Rattle.harmony.specs.Ranges.{all-proper, bounds, proper, voices-of}
 use Rattle.harmony.specs.declared.range.Bounds.{Bounds}
 use Rattle.harmony.specs.declared.range.Range.{Range}
-use Rattle.harmony.specs.declared.refusal.Refusal.the-variants.{VoiceNumber, ImproperRange, FallingRange}
+use Rattle.harmony.specs.declared.refusal.Refusal.the-variants.{VoiceNumber}
 use Rattle.std.proofs.shelf.Lists.{at-drop-more, at-drop-all, map-push, take-more, take-more-set}
-use Rattle.std.proofs.shelf.Tests.{and-from, and-right, le-leb, lt-leb}
-use Rattle.std.specs.declared.result.Result.the-variants.{Ok, Err}
-
-module _ (bs : List Bounds) (least : 3 ≤ length bs) (most : length bs ≤ 6) where
-  few : three-to-six (length bs) ≡ true
-  few = and-from (leb 3 (length bs)) (leb (length bs) 6) (le-leb 3 (length bs) least) (le-leb (length bs) 6 most)
-
-  pub voices-improper : all-proper bs ≡ false → voices-of bs ≡ Err ImproperRange
-  voices-improper e = rw (few, e)
-
-  pub voices-falling : all-proper bs ≡ true → rising bs ≡ false → voices-of bs ≡ Err FallingRange
-  voices-falling e f = rw (few, e, f)
-
-  pub voices-accepted : all-proper bs ≡ true → rising bs ≡ true → voices-of bs ≡ Ok bs
-  voices-accepted e f = rw (few, e, f)
+use Rattle.std.proofs.shelf.Tests.{and-right, lt-leb}
+use Rattle.std.specs.declared.result.Result.the-variants.{Err}
 
 pub voices-many : (bs : List Bounds) → 6 < length bs → voices-of bs ≡ Err VoiceNumber
 voices-many bs h = rw (and-right (leb 3 (length bs)) (leb (length bs) 6) (lt-leb (length bs) 6 h))

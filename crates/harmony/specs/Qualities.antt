@@ -1,6 +1,6 @@
 -- The qualities of a chord.
 --
--- Voicing      the notes of a quality in semitones above the root, and the notes that are doubled, in that order, where voices are left
+-- ChordNotes   the notes of a quality in semitones above the root, and the notes that are doubled, in that order, where voices are left
 -- name-of      the text that names each quality
 -- quality-of   the quality that a text names
 -- tones-of     the notes of each quality, and the doubled ones
@@ -9,20 +9,7 @@ use lib.Chars.{codes}
 use mathlib.Core.Bool.{cond}
 use mathlib.Core.List.{List, [], _∷_}
 use Rattle.harmony.specs.declared.quality.Quality.{Quality}
-use Rattle.harmony.specs.declared.quality.Quality.the-variants.{
-  Major,
-  Minor,
-  Diminished,
-  Augmented,
-  Suspended,
-  Sixth,
-  MinorSixth,
-  Seventh,
-  MajorSeventh,
-  MinorSeventh,
-  HalfDiminished,
-  DiminishedSeventh,
-}
+use Rattle.harmony.specs.declared.quality.Quality.the-variants.{Major, Minor, Diminished, Augmented, Suspended, Sixth, MinorSixth, Seventh, MajorSeventh, MinorSeventh, HalfDiminished, DiminishedSeventh}
 use Rattle.std.specs.declared.option.Option.{Option}
 use Rattle.std.specs.declared.option.Option.the-variants.{Some, None}
 use Rattle.std.specs.shelf.Text.{sameBytes}
@@ -54,18 +41,18 @@ named-among (q ∷ qs) text = cond (sameBytes text (name-of q)) (Some q) (named-
 abbrev pub quality-of : List ℕ → Option Quality
 quality-of text = named-among every-quality text
 
-pub record Voicing : Type 0 where
+pub record ChordNotes : Type 0 where
   pub notes : List ℕ
   pub doubled : List ℕ
 
 -- notes of which the first, the third and the second are doubled, in that order
-abbrev pub triad : ℕ → ℕ → ℕ → Voicing
+abbrev pub triad : ℕ → ℕ → ℕ → ChordNotes
 triad a b c = record { notes = a ∷ b ∷ c ∷ []; doubled = a ∷ c ∷ b ∷ [] }
 
-abbrev pub tetrad : ℕ → ℕ → ℕ → ℕ → Voicing
+abbrev pub tetrad : ℕ → ℕ → ℕ → ℕ → ChordNotes
 tetrad a b c d = record { notes = a ∷ b ∷ c ∷ d ∷ []; doubled = a ∷ c ∷ b ∷ [] }
 
-abbrev pub tones-of : Quality → Voicing
+abbrev pub tones-of : Quality → ChordNotes
 tones-of Major = triad 0 4 7
 tones-of Minor = triad 0 3 7
 tones-of Diminished = triad 0 3 6

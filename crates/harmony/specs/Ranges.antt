@@ -5,9 +5,9 @@
 -- rising   from a voice to the next neither the low nor the high falls
 use Prim.Native.Nat.{ℕ, _+_, _%_}
 use lib.Dec.{eqb, leb}
-use lib.ListN.{length, take}
-use mathlib.Core.Bool.{Bool, true, false, cond, _&&_}
-use mathlib.Core.List.{List, [], _∷_, map}
+use lib.ListN.{length}
+use mathlib.Core.Bool.{Bool, true, cond, _&&_}
+use mathlib.Core.List.{List, [], _∷_}
 use Rattle.harmony.specs.Neighbours.{neighbours}
 use Rattle.harmony.specs.declared.range.Bounds.{Bounds}
 use Rattle.harmony.specs.declared.range.Range.{Range}
@@ -49,9 +49,9 @@ paired [] = []
 paired (l ∷ []) = []
 paired (l ∷ h ∷ bs) = record { low = l; high = h } ∷ paired bs
 
--- the ranges that the voices get from bytes, which have to come in pairs
+-- the ranges that the voices get from bytes, which have to be pairs and at most twelve
 abbrev pub set-up : List ℕ → Result (List Bounds) Refusal
-set-up bs = cond (eqb (length bs % 2) 0) (voices-of (paired bs)) (Err VoiceNumber)
+set-up bs = cond (eqb (length bs % 2) 0 && leb (length bs) 12) (voices-of (paired bs)) (Err VoiceNumber)
 
 -- the ranges of a board that was never set up
 abbrev pub never-set : List Bounds

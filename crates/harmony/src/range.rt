@@ -1,5 +1,4 @@
 // The range of a voice, and bounds that are not yet known to be one.
-ghost use lib.Dec.{T};
 ghost use mathlib.Core.Bool.{false, true};
 ghost use mathlib.Core.Path.{_≡_};
 ghost use Rattle.harmony.specs.Ranges.{bounds, not-lower, proper};

@@ -1,23 +1,33 @@
-// The lines of one symbol: its number of rows and each row, or its refusal.
+// The lines of one symbol: the rows of its chord, and a row as text.
+ghost use lib.ListN.{length};
+ghost use mathlib.Core.List.{_++_};
+ghost use mathlib.Core.Path.{_≡_};
+ghost use Rattle.harmony.specs.Symbols.{chord-of};
+ghost use Rattle.harmony.specs.VoiceRanges.{ranges-of};
+ghost use Rattle.rowlist.specs.Listings.{answer-of, row-line, rows-named};
+ghost use Rattle.rows.specs.Tables.{with-room, written};
+ghost use Rattle.std.specs.Of.String.{string-bytes};
+ghost use Rattle.std.specs.Vec.{made};
 use harmony::chord::Chord;
 use harmony::refusal::Refusal;
 use harmony::voices::Voices;
 use rows::table::write;
-use std::fmt::Write as Text;
+use std::fmt::Write;
 use std::io;
-use std::io::Write;
 
-// The most bytes that the rows of a chord take: 256 rows of six pitches.
-const MOST_BYTES: usize = 1536;
-
-// Writes the rows of the chord that a symbol names, and answers how many they are.
-fn rows_of(voices: &Voices, symbol: &[u8], table: &mut [u8]) -> Result<usize, Refusal> {
+// Writes the rows of the chord that a symbol names to the front of a table, and answers how many they are.
+pub fn find_rows(voices: &Voices, symbol: &[u8], table: &mut [u8]) -> Result<usize, Refusal>
+    ensures answer { λ r. ⌜ r ≡ with-room (now (voices .entry) .count .number) (length (now (table .entry))) (answer-of (now (voices .entry)) (now (symbol .entry))) ⌝ }
+    ensures table { λ r. ⌜ now (table .exit) ≡ written (now (voices .entry) .count .number) (rows-named (ranges-of (now (voices .entry))) (chord-of (now (symbol .entry)) (now (voices .entry) .count .number))) (now (table .entry)) r ⌝ }
+{
     let chord = Chord::read(symbol, voices.count())?;
     write(voices, &chord, table)
 }
 
-// The pitches of a row on a line, parted by spaces.
-fn row_line(page: &mut String, row: &[u8]) -> io::Result<()> {
+// Adds a row to a page, on a line of its own, its pitches parted by spaces.
+pub fn add_row(page: &mut String, row: &[u8]) -> io::Result<()>
+    ensures { λ r. ⌜ made r (λ _. string-bytes (now (page .exit)) ≡ string-bytes (now (page .entry)) ++ row-line (now (row .entry))) ⌝ }
+{
     for (voice, pitch) in row.iter().enumerate() {
         if voice > 0 {
             page.push(' ')?;
@@ -26,24 +36,4 @@ fn row_line(page: &mut String, row: &[u8]) -> io::Result<()> {
     }
     page.push('\n')?;
     Ok(())
-}
-
-pub fn list(rt: &LibcRuntime, voices: &Voices, symbol: &[u8]) -> io::Result<()> {
-    let mut table = [0; MOST_BYTES];
-    let mut page = String::new(rt.alloc());
-    match rows_of(voices, symbol, &mut table) {
-        Ok(rows) => {
-            write!(page, " {rows}\n")?;
-            for row in table.chunks(voices.count().number()).take(rows) {
-                row_line(&mut page, row)?;
-            }
-        }
-        Err(refusal) => {
-            let number = refusal.notice().number;
-            write!(page, " refused {number}\n")?;
-        }
-    }
-    let mut out = rt.stdout();
-    out.write_all(symbol)?;
-    out.write_all(page.as_bytes())
 }

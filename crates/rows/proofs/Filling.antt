@@ -3,23 +3,23 @@ use mathlib.Core.Bool.{Bool, true, false, cond}
 use mathlib.Core.List.{List, [], _∷_, _++_, append-assoc, append-nil}
 use mathlib.Core.Logic.{inl, inr}
 use mathlib.Core.Path.{_≡_, refl, sym, ap, subst, _∙_}
-use Prim.Native.Nat.{ℕ, suc, _+_, _*_, _<_, _≤_}
+use Prim.Native.Nat.{ℕ, suc, _+_, _*_, _≤_}
 use lib.Dec.{leb}
-use lib.ListN.{length, drop, take}
+use lib.ListN.{length, drop}
 use native.Mathlib.Nat.{suc-mul, zero-mul}
 use native.Mathlib.Numerals.{add-one}
 use native.Mathlib.Omega.{arith}
 use Rattle.harmony.specs.Chords.{Harmony}
 use Rattle.harmony.specs.declared.range.Bounds.{Bounds}
 use Rattle.harmony.specs.declared.refusal.Refusal.{Refusal}
-use Rattle.harmony.specs.declared.refusal.Refusal.the-variants.{NoRow, TooManyRows, ShortRowTable}
+use Rattle.harmony.specs.declared.refusal.Refusal.the-variants.{NoRow, TooManyRows}
 use Rattle.rows.specs.Arrangements.{inside, within}
 use Rattle.rows.specs.Enumeration.{In, rows}
 use Rattle.rows.specs.Search.{Completed}
-use Rattle.rows.specs.Tables.{all-few, all-some, count-unless, counted, flat, laid, placed, together, with-room, written}
+use Rattle.rows.specs.Tables.{all-few, all-some, count-unless, counted, flat, laid, placed, together}
 use Rattle.rows.proofs.Meaning.{meant}
-use Rattle.std.proofs.shelf.Lists.{drop-append-le, drop-at, drop-drop, length-append, length-drop, take-at}
-use Rattle.std.proofs.shelf.Tests.{and-parts, cases-bool, cond-false, cond-true, false≢true, le-leb, leb-true, lt-leb}
+use Rattle.std.proofs.shelf.Lists.{drop-at, drop-drop, length-append, length-drop, take-at}
+use Rattle.std.proofs.shelf.Tests.{and-parts, cond-true, false≢true, le-leb, leb-true}
 use Rattle.std.specs.declared.option.Option.the-variants.{Some, None}
 use Rattle.std.specs.declared.result.Result.{Result}
 use Rattle.std.specs.declared.result.Result.the-variants.{Ok, Err}
@@ -72,19 +72,10 @@ counted-parts rss k e = parts (all-some rss) (all-few rss) e
     parts true false e = let z : _≡_ {A = ℕ} 0 1 = cc in absurd (omega arith)
     parts false b e = let z : _≡_ {A = ℕ} 0 1 = cc in absurd (omega arith)
 
--- one chord's rows
-module _ (n : ℕ) (rs : List (List ℕ)) (part : List ℕ) where
-  pub room-short : (k : ℕ) → counted (rs ∷ []) ≡ Ok k → length part < k * n → Err ShortRowTable ≡ with-room n (length part) (counted (rs ∷ []))
-  room-short k e h = rw e (sym (cond-false (leb (k * n) (length part)) (Ok k) (Err ShortRowTable) (lt-leb (k * n) (length part) h)))
-
-  -- a search that finds what was counted has written it
-  pub found-written : (after : List ℕ) (k : ℕ) (r : Result ℕ Refusal) → All (λ row. length row ≡ n) rs → counted (rs ∷ []) ≡ Ok k → k * n ≤ length part → Completed n 0 rs part after r → (r ≡ with-room n (length part) (counted (rs ∷ []))) × (after ≡ written n rs part r)
-  found-written after k (Err e) widths was room done =
-      absurd (omega (arith, done .1, leb-true (length rs) 256 (and-parts (leb (length rs) 256) true (counted-parts (rs ∷ []) k was .1) .0)))
-  found-written after k (Ok j) widths was room done =
-      let one : k ≡ length rs = counted-parts (rs ∷ []) k was .2 ∙ ap length (append-nil rs) in
-      let same : j ≡ k = omega (arith, done .0) in
-      let all : j ≡ length rs = omega (arith, done .0) in (
-        rw was (sym (cond-true (leb (k * n) (length part)) (Ok k) (Err ShortRowTable) (le-leb (k * n) (length part) room) ∙ ap Ok (sym same))),
-        done .2 ∙ laid-all n part rs widths (subst (λ m. m * n ≤ length part) one room) ∙ ap (λ m. flat rs ++ drop (m * n) part) (sym all),
-      )
+-- a search that finds the rows of one chord, which were counted, has written them
+pub found-written : (n : ℕ) (rs : List (List ℕ)) (part after : List ℕ) (k : ℕ) (r : Result ℕ Refusal) → All (λ row. length row ≡ n) rs → counted (rs ∷ []) ≡ Ok k → k * n ≤ length part → Completed n 0 rs part after r → after ≡ flat rs ++ drop (k * n) part
+found-written n rs part after k (Err e) widths was room done =
+    absurd (omega (arith, done .1, leb-true (length rs) 256 (and-parts (leb (length rs) 256) true (counted-parts (rs ∷ []) k was .1) .0)))
+found-written n rs part after k (Ok j) widths was room done =
+    let one : k ≡ length rs = counted-parts (rs ∷ []) k was .2 ∙ ap length (append-nil rs) in
+    done .2 ∙ laid-all n part rs widths (subst (λ m. m * n ≤ length part) one room) ∙ ap (λ m. flat rs ++ drop (m * n) part) (sym one)

@@ -1,5 +1,5 @@
 -- Rows of one chord written behind those of the chords before, without a gap.
-use mathlib.Core.Bool.{Bool, true, _&&_}
+use mathlib.Core.Bool.{true}
 use mathlib.Core.List.{List, [], _∷_, _++_, append-assoc, append-nil}
 use mathlib.Core.Path.{_≡_, refl, sym, ap, subst, _∙_}
 use Prim.Native.Nat.{ℕ, zero, suc, _+_, _-_, _*_, _<_, _≤_}
@@ -19,7 +19,7 @@ use Rattle.rows.specs.Tables.{all-some, counted, flat, refused-first, rows-for
 use Rattle.rows.proofs.Adding.{accepted, few-each, upto, upto-more, upto-within}
 use Rattle.rows.proofs.Filling.{rows-length}
 use Rattle.std.proofs.shelf.Elements.{all-append}
-use Rattle.std.proofs.shelf.Lists.{drop-append-le, drop-at, drop-drop, length-append, length-drop, length-map, length-take, length-take-le, take-append-drop, take-at}
+use Rattle.std.proofs.shelf.Lists.{drop-append-le, drop-at, drop-drop, length-append, length-drop, length-map, length-take-le, take-append-drop, take-at}
 use Rattle.std.proofs.shelf.Tests.{and-parts, cond-true, le-leb, leb-true}
 use Rattle.std.specs.declared.option.Option.the-variants.{None}
 use Rattle.std.specs.declared.result.Result.{Result}
@@ -35,7 +35,7 @@ flat-append : (rs ss : List (List ℕ)) → flat (rs ++ ss) ≡ flat rs ++ flat 
 flat-append [] ss = refl
 flat-append (r ∷ rs) ss = ap (λ t. r ++ t) (flat-append rs ss) ∙ sym (append-assoc r (flat rs) (flat ss))
 
-wide : (voices : Voices) (c : Chord) → All (λ r. length r ≡ voices .count .number) (rows-for voices c)
+pub wide : (voices : Voices) (c : Chord) → All (λ r. length r ≡ voices .count .number) (rows-for voices c)
 wide voices c =
     let n = voices .count .number in
     let long : length (ranges-of voices) ≡ n = length-map (take n (voices .ranges)) bounds ∙ length-take-le n (voices .ranges) (omega (arith, voices .full, voices .count .most)) in

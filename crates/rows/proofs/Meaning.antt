@@ -1,25 +1,22 @@
 -- The rows that are listed are exactly the rows of the chord, each once and in order.
-use mathlib.Core.Bool.{Bool, true, false, cond, _&&_}
-use mathlib.Core.List.{List, [], _∷_, _++_, map}
-use mathlib.Core.Logic.{_⊎_, inl, inr}
+use mathlib.Core.Bool.{true, cond}
+use mathlib.Core.List.{List, [], _∷_, map}
+use mathlib.Core.Logic.{inl, inr}
 use mathlib.Core.Path.{_≡_, refl, sym, ap, subst, _∙_}
-use Prim.Native.Nat.{ℕ, zero, suc, _+_, _-_, _<_, _≤_}
-use lib.Dec.{eqb, leb}
+use Prim.Native.Nat.{ℕ, suc, _-_, _<_, _≤_}
+use lib.Dec.{leb}
 use lib.ListN.{length, getD}
 use native.Mathlib.Omega.{arith}
 use Rattle.harmony.specs.Chords.{Harmony, tally}
-use Rattle.harmony.specs.Neighbours.{neighbours}
 use Rattle.harmony.specs.Pitches.{class}
 use Rattle.harmony.specs.declared.range.Bounds.{Bounds}
-use Rattle.rows.specs.Arrangements.{Arranged, Earlier, IsRow, ascends, inside, within}
-use Rattle.rows.specs.Enumeration.{Footing, In, InOrder, Meant, above, all-zero, bass, less, may, pitches, rows, rows-on, stands}
+use Rattle.rows.specs.Arrangements.{IsRow, ascends, inside, within}
+use Rattle.rows.specs.Enumeration.{Footing, In, Meant, above, all-zero, bass, less, may, pitches, rows-on, stands}
 use Rattle.rows.proofs.Counts.{length-less, tally-down, tally-up, tally-zero, zero-tally}
 use Rattle.rows.proofs.Order.{in-order}
 use Rattle.rows.proofs.Members.{from-counting, from-joined, from-map, in-counting, in-joined, in-map}
-use Rattle.std.proofs.shelf.Elements.{all-append, all-map, all-weaker}
+use Rattle.std.proofs.shelf.Elements.{all-weaker}
 use Rattle.std.proofs.shelf.Tests.{and-from, and-parts, both-ways, cases-bool, cond-true, cond-false, eq-eqb, eqb-true, le-leb, leb-true}
-use Rattle.std.specs.Iters.{counting}
-use Rattle.std.specs.Joined.{joined}
 use Rattle.std.specs.shelf.Lists.{All}
 
 -- each pitch stands on the one below, and the first on the footing

@@ -1,6 +1,6 @@
 -- A row put at its place in a table.
-use mathlib.Core.List.{List, [], _++_}
-use mathlib.Core.Path.{_≡_, refl, sym, ap, _∙_}
+use mathlib.Core.List.{List, _++_}
+use mathlib.Core.Path.{_≡_, sym, ap, _∙_}
 use Prim.Native.Nat.{ℕ, _+_, _-_, _*_, _<_, _≤_}
 use lib.Dec.{leb}
 use lib.ListN.{length, drop, take}
@@ -12,7 +12,7 @@ use Rattle.harmony.specs.declared.refusal.Refusal.the-variants.{ShortRowTable}
 use Rattle.rows.specs.Arrangements.{semitones-of}
 use Rattle.rows.specs.Tables.{placed}
 use Rattle.std.proofs.shelf.Lists.{append-nil, drop-all, drop-drop}
-use Rattle.std.proofs.shelf.Tests.{cond-true, cond-false, le-leb, lt-leb}
+use Rattle.std.proofs.shelf.Tests.{cond-true, le-leb}
 use Rattle.std.specs.Results.{Cases}
 use Rattle.std.specs.declared.result.Result.{Result}
 use Rattle.std.specs.declared.result.Result.the-variants.{Ok, Err}
@@ -31,6 +31,3 @@ module _ (n k : ℕ) (table r : List ℕ) where
       ap (λ t. take a table ++ (part ++ t)) (drop-drop (a + w - a) a table ∙ ap (λ m. drop m table) one)
       ∙ ap (λ m. take m table ++ (part ++ drop (k * n + n) table)) ea ∙ ap (λ p. take (k * n) table ++ (p ++ drop (k * n + n) table)) e
       ∙ sym (cond-true (leb (k * n + n) (length table)) _ _ (le-leb (k * n + n) (length table) room))
-
-  pub placed-not : length table < k * n + n → table ≡ placed n table k r
-  placed-not short = sym (cond-false (leb (k * n + n) (length table)) (take (k * n) table ++ (r ++ drop (k * n + n) table)) table (lt-leb (k * n + n) (length table) short))

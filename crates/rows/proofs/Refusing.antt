@@ -3,14 +3,13 @@ use mathlib.Core.Bool.{Bool, true, false, cond, _&&_}
 use mathlib.Core.List.{List, [], _∷_}
 use mathlib.Core.Path.{_≡_, refl, sym, ap, _∙_}
 use Prim.Native.Nat.{ℕ, _+_, _<_, _≤_}
-use lib.Dec.{leb}
 use lib.ListN.{length, drop, getD}
 use native.Mathlib.Omega.{arith}
 use Rattle.harmony.specs.declared.chord.Chord.{Chord}
 use Rattle.harmony.specs.declared.refusal.Refusal.{Refusal}
 use Rattle.harmony.specs.declared.refusal.Refusal.the-variants.{NoRow, TooManyRows}
 use Rattle.harmony.specs.declared.voices.Voices.{Voices}
-use Rattle.rows.specs.Tables.{all-few, all-some, refused-first, rows-for, rows-of-each}
+use Rattle.rows.specs.Tables.{all-some, refused-first, rows-for, rows-of-each}
 use Rattle.std.proofs.shelf.Lists.{at-drop-all, at-drop-more}
 use Rattle.std.proofs.shelf.Tests.{le-leb, lt-leb}
 use Rattle.std.specs.declared.option.Option.{Option}

@@ -42,6 +42,18 @@ impl Footing {
     }
 }
 
+// Whether nothing is left of any count.
+fn all_zero(counts: &[u8]) -> bool
+    ensures { λ r. ⌜ r ≡ all-zero (now (counts .entry)) ⌝ }
+{
+    for count in counts {
+        if *count != 0 {
+            return false;
+        }
+    }
+    true
+}
+
 impl Climb {
     // No voice has sung yet.
     pub(crate) fn start(chord: &Chord) -> Climb
@@ -82,11 +94,6 @@ impl Climb {
     pub(crate) fn is_sung(self) -> bool
         ensures { λ r. ⌜ r ≡ all-zero (self .left) ⌝ }
     {
-        for count in self.left.iter() {
-            if *count != 0 {
-                return false;
-            }
-        }
-        true
+        all_zero(&self.left)
     }
 }

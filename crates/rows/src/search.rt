@@ -5,8 +5,9 @@ ghost use mathlib.Core.List.{List, [], map};
 ghost use mathlib.Core.Path.{_≡_};
 ghost use Rattle.harmony.specs.Chords.{harmony};
 ghost use Rattle.harmony.specs.Ranges.{bounds};
+ghost use Rattle.harmony.specs.VoiceRanges.{ranges-of};
 ghost use Rattle.rows.specs.Arrangements.{semitones-of};
-ghost use Rattle.rows.specs.Enumeration.{In, rows as rows-of};
+ghost use Rattle.rows.specs.Enumeration.{In, Meant, rows as rows-of};
 ghost use Rattle.rows.specs.Search.{Completed, footing-of, grown};
 ghost use Rattle.rows.specs.Tables.{placed, rows-for};
 use crate::climb::Climb;
@@ -90,7 +91,8 @@ fn complete<'a>(
 
 // All rows of a chord, put into the table as far as there is room for them.
 pub(crate) fn find(voices: &Voices, chord: &Chord, table: &mut [u8]) -> Result<usize, Refusal>
-    ensures { λ r. ⌜ Completed (now (voices .entry) .count .number) 0 (rows-for (now (voices .entry)) (now (chord .entry))) (now (table .entry)) (now (table .exit)) r ⌝ }
+    ensures found { λ r. ⌜ Completed (now (voices .entry) .count .number) 0 (rows-for (now (voices .entry)) (now (chord .entry))) (now (table .entry)) (now (table .exit)) r ⌝ }
+    ensures meaning { λ _. ⌜ Meant (ranges-of (now (voices .entry))) (harmony (now (chord .entry))) ⌝ }
 {
     complete(voices.ranges(), chord, Climb::start(chord), table, 0)
 }

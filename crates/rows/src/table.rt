@@ -10,6 +10,7 @@ ghost use Rattle.rows.specs.Enumeration.{Meant};
 ghost use Rattle.rows.specs.Tables.{counted, flat, refused-first, rows-for, rows-of-each, together, with-room, written};
 ghost use Rattle.std.specs.Options.{Cases as BySome};
 ghost use Rattle.std.specs.declared.option.Option.the-variants.{None};
+ghost use Rattle.std.specs.declared.result.Result.the-variants.{Ok};
 use crate::search::find;
 use harmony::chord::Chord;
 use harmony::refusal::Refusal;
@@ -17,13 +18,23 @@ use harmony::voices::Voices;
 
 // How many rows a chord has, or why it is refused.
 pub fn count(voices: &Voices, chord: &Chord) -> Result<usize, Refusal>
-    ensures { λ r. ⌜ r ≡ counted (rows-for (now (voices .entry)) (now (chord .entry)) ∷ []) ⌝ }
+    ensures answer { λ r. ⌜ r ≡ counted (rows-for (now (voices .entry)) (now (chord .entry)) ∷ []) ⌝ }
+    ensures meaning { λ _. ⌜ Meant (ranges-of (now (voices .entry))) (harmony (now (chord .entry))) ⌝ }
 {
     let rows = find(voices, chord, &mut [])?;
     if rows == 0 {
         return Err(Refusal::NoRow);
     }
     Ok(rows)
+}
+
+// Writes the rows of a chord, which were counted, to the front of a part that holds them.
+fn put(voices: &Voices, chord: &Chord, part: &mut [u8], rows: usize)
+    requires was { ⌜ counted (rows-for (now voices) (now chord) ∷ []) ≡ Ok rows ⌝ }
+    requires room { ⌜ rows * now voices .count .number ≤ length (now part) ⌝ }
+    ensures { λ _. ⌜ now (part .exit) ≡ flat (rows-for (now (voices .entry)) (now (chord .entry))) ++ drop (rows * now (voices .entry) .count .number) (now (part .entry)) ⌝ }
+{
+    let _ = find(voices, chord, part);
 }
 
 // Writes the rows of a chord, in order, to the front of a part of a row table, and answers how many they are.
@@ -36,7 +47,8 @@ pub fn write(voices: &Voices, chord: &Chord, part: &mut [u8]) -> Result<usize, R
     if part.len() < rows * voices.count().number() {
         return Err(Refusal::ShortRowTable);
     }
-    find(voices, chord, part)
+    put(voices, chord, part, rows);
+    Ok(rows)
 }
 
 // The first condition that one of the chords meets: no row in any before too many rows in any.

@@ -1,7 +1,7 @@
 // The line of ranges, a chart's first line.
 ghost use Prim.Native.Nat.{_+_, _<_, _^_, _≤_};
 ghost use lib.Chars.{codes};
-ghost use lib.ListN.{drop, length, replicate, take};
+ghost use lib.ListN.{drop, length, replicate};
 ghost use mathlib.Core.Path.{_≡_};
 ghost use Rattle.harmony.specs.VoiceRanges.{ranges-of};
 ghost use Rattle.harmony.specs.declared.refusal.Refusal.the-variants.{MalformedHeading};
@@ -94,14 +94,12 @@ fn opens(chart: &[u8]) -> bool
     }
 }
 
-// The line of ranges of the chart, or that it is malformed.
-pub fn range_line(chart: &[u8]) -> Result<RangeLine, Refusal>
+// The line of ranges of a chart that begins with its word, or that it is malformed.
+fn behind_word(chart: &[u8]) -> Result<RangeLine, Refusal>
+    requires { ⌜ behind (codes "voices") (now chart) ≡ Some (drop 6 (now chart)) ⌝ }
     ensures told { λ r. ⌜ Cases r (λ l. Told (now (chart .entry)) (l .count) (l .first) (l .end)) (λ e. (e ≡ MalformedHeading) × (range-line (now (chart .entry)) ≡ None)) ⌝ }
     ensures form { λ _. ⌜ LineForm (now (chart .entry)) ⌝ }
 {
-    if !opens(chart) {
-        return Err(Refusal::MalformedHeading);
-    }
     let mut line = RangeLine::word();
     let mut place = Place::Between;
     for i in line.end..chart.len() {
@@ -115,4 +113,15 @@ pub fn range_line(chart: &[u8]) -> Result<RangeLine, Refusal>
         }
     }
     Err(Refusal::MalformedHeading)
+}
+
+// The line of ranges of the chart, or that it is malformed.
+pub fn range_line(chart: &[u8]) -> Result<RangeLine, Refusal>
+    ensures told { λ r. ⌜ Cases r (λ l. Told (now (chart .entry)) (l .count) (l .first) (l .end)) (λ e. (e ≡ MalformedHeading) × (range-line (now (chart .entry)) ≡ None)) ⌝ }
+    ensures form { λ _. ⌜ LineForm (now (chart .entry)) ⌝ }
+{
+    if !opens(chart) {
+        return Err(Refusal::MalformedHeading);
+    }
+    behind_word(chart)
 }

@@ -61,6 +61,24 @@ fn symbol_end(text: &[u8], from: usize) -> usize
     text.len()
 }
 
+// The first token of the text from `from` on, and the offset behind it; without a token, the text's length.
+fn scan<'a>(text: &'a [u8], from: usize) -> (Option<Token<'a>>, usize)
+    requires { ⌜ from ≤ length (now text) ⌝ }
+    ensures token { λ r. ⌜ BySome (r .0) ((left-from (now (text .entry)) from ≡ []) × (r .1 ≡ length (now (text .entry)))) (λ t. left-from (now (text .entry)) from ≡ piece-of t ∷ left-from (now (text .entry)) (r .1)) ⌝ }
+    ensures within { λ r. ⌜ r .1 ≤ length (now (text .entry)) ⌝ }
+{
+    let at = past_blanks(text, from);
+    if at == text.len() {
+        return (None, at);
+    }
+    if text[at] == b'|' {
+        return (Some(Token::Bar(at)), at + 1);
+    }
+    let end = symbol_end(text, at);
+    let bytes = &text[at..end];
+    (Some(Token::Symbol { bytes, at }), end)
+}
+
 impl<'a> Reader<'a> {
     // A reader of the text from that offset on; from behind the end it reads nothing.
     pub fn new(text: &'a [u8], from: usize) -> Reader<'a>
@@ -77,20 +95,8 @@ impl<'a> Reader<'a> {
         ensures text { λ _. ⌜ now (self .exit) .text .now ≡ now (self .entry) .text .now ⌝ }
         ensures token { λ r. ⌜ BySome r ((left-from (now (self .entry) .text .now) (now (self .entry) .pos) ≡ []) × (now (self .exit) .pos ≡ length (now (self .entry) .text .now))) (λ t. left-from (now (self .entry) .text .now) (now (self .entry) .pos) ≡ piece-of t ∷ left-from (now (self .entry) .text .now) (now (self .exit) .pos)) ⌝ }
     {
-        let at = past_blanks(self.text, self.pos);
-        if at == self.text.len() {
-            self.pos = at;
-            return None;
-        }
-        if self.text[at] == b'|' {
-            self.pos = at + 1;
-            return Some(Token::Bar(at));
-        }
-        let end = symbol_end(self.text, at);
-        self.pos = end;
-        Some(Token::Symbol {
-            bytes: &self.text[at..end],
-            at,
-        })
+        let (token, pos) = scan(self.text, self.pos);
+        self.pos = pos;
+        token
     }
 }

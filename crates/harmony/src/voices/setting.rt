@@ -58,6 +58,15 @@ fn pairs(bytes: &[u8]) -> [Bounds; 6]
     within
 }
 
+// The voices with the bounds that the bytes hold in pairs.
+fn from_pairs(bytes: &[u8]) -> Result<Voices, Refusal>
+    requires { ⌜ length (now bytes) ≤ 12 ⌝ }
+    ensures { λ r. ⌜ Cases r (λ v. voices-of (paired (now (bytes .entry))) ≡ Ok (ranges-of v)) (λ e. voices-of (paired (now (bytes .entry))) ≡ Err e) ⌝ }
+{
+    let within = pairs(bytes);
+    Voices::new(&within[0..bytes.len() / 2])
+}
+
 impl Voices {
     // The voices with these bounds, or the first rule that they break.
     pub fn new(within: &[Bounds]) -> Result<Voices, Refusal>
@@ -75,12 +84,13 @@ impl Voices {
     pub fn from_bytes(bytes: &[u8]) -> Result<Voices, Refusal>
         ensures { λ r. ⌜ Cases r (λ v. set-up (now (bytes .entry)) ≡ Ok (ranges-of v)) (λ e. set-up (now (bytes .entry)) ≡ Err e) ⌝ }
     {
-        if bytes.len() % 2 == 0 && bytes.len() <= 12 {
-            let within = pairs(bytes);
-            Voices::new(&within[0..bytes.len() / 2])
-        } else {
-            Err(Refusal::VoiceNumber)
+        if bytes.len() % 2 != 0 {
+            return Err(Refusal::VoiceNumber);
         }
+        if bytes.len() > 12 {
+            return Err(Refusal::VoiceNumber);
+        }
+        from_pairs(bytes)
     }
 
     // The voices of a board that was never set up: three of 48 to 72.

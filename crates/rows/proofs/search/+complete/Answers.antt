@@ -1,13 +1,11 @@
-use mathlib.Core.List.{List, [], _++_, append-nil, map}
+use mathlib.Core.List.{[], _++_}
 use mathlib.Core.Path.{_≡_, refl, sym, ap, subst, _∙_}
-use Prim.Native.Nat.{ℕ, _+_, _-_, _<_}
-use lib.ListN.{drop, length}
+use Prim.Native.Nat.{_+_, _-_, _<_}
+use lib.ListN.{length}
 use native.Mathlib.Omega.{arith}
-use borrow.Author.Needs.{needs}
-use Rattle.harmony.specs.Ranges.{bounds}
 use Rattle.rows.specs.Arrangements.{semitones-of}
 use Rattle.rows.specs.Enumeration.{In, rows}
-use Rattle.rows.specs.Search.{Completed, footing-of, grown}
+use Rattle.rows.specs.Search.{Completed, footing-of}
 use Rattle.rows.proofs.Searching.{at-voice, below, below-more, below-none, below-within, completed-both, completed-past, grown-here, grown-top, in-below, voice-next, voice-none}
 use Rattle.rows.proofs.search.+complete.Needs as need
 use Rattle.rows.proofs.search.+complete.Needs.{in-Some·in-Continue-found, in-rest}

@@ -1,9 +1,7 @@
-use mathlib.Core.List.{map}
-use mathlib.Core.Path.{_≡_, ap, sym, _∙_}
-use lib.ListN.{take, length}
+use mathlib.Core.Path.{_≡_, _∙_}
+use lib.ListN.{length}
 use native.Mathlib.Omega.{arith}
 use borrow.Author.Needs.{needs}
-use Rattle.harmony.specs.Ranges.{bounds}
 use Rattle.harmony.proofs.Ranges.{bounds-more, proper-all, proper-fail, proper-more}
 use Rattle.harmony.proofs.voices.setting.ranges_within.Needs as need
 use Rattle.std.proofs.shelf.Lists.{take-all}

@@ -5,7 +5,7 @@ use mathlib.Core.Path.{_≡_}
 use Rattle.harmony.specs.declared.range.Bounds.{Bounds}
 use Rattle.text.specs.RangeLines.{range-line, scan}
 use Rattle.text.specs.Telling.{Kept, place-of}
-use Rattle.text.proofs.range_line.range_line.Given as given
+use Rattle.text.proofs.range_line.behind_word.Given as given
 
 abbrev pub Inv-loop-i : given.InvT-loop-i
 Inv-loop-i l =
