@@ -15,7 +15,7 @@ use Rattle.harmony.specs.declared.refusal.Refusal.{Refusal}
 use Rattle.harmony.specs.declared.refusal.Refusal.the-variants.{NoRow, TooManyRows}
 use Rattle.rows.specs.Arrangements.{inside, within}
 use Rattle.rows.specs.Enumeration.{In, rows}
-use Rattle.rows.specs.Search.{Completed}
+use Rattle.rows.specs.Growth.{Completed}
 use Rattle.rows.specs.Tables.{all-few, all-some, count-unless, counted, flat, laid, placed, together}
 use Rattle.rows.proofs.Meaning.{meant}
 use Rattle.std.proofs.shelf.Lists.{drop-at, drop-drop, length-append, length-drop, take-at}

@@ -1,4 +1,5 @@
 pub mod Adding
+pub mod Completing
 pub mod Counts
 pub mod Filling
 pub mod Gapless
@@ -8,5 +9,4 @@ pub mod Members
 pub mod Order
 pub mod Placing
 pub mod Refusing
-pub mod Searching
 pub mod Written

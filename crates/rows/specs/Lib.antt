@@ -1,4 +1,4 @@
 pub mod Arrangements
 pub mod Enumeration
-pub mod Search
+pub mod Growth
 pub mod Tables

@@ -7,7 +7,7 @@ ghost use mathlib.Core.Path.{_≡_};
 ghost use Rattle.harmony.specs.Pitches.{class};
 ghost use Rattle.rows.specs.Arrangements.{semitones-of};
 ghost use Rattle.rows.specs.Enumeration.{above, all-zero, bass, less, may, stands};
-ghost use Rattle.rows.specs.Search.{footing-of};
+ghost use Rattle.rows.specs.Growth.{footing-of};
 ghost use Rattle.std.specs.Options.{Cases as BySome};
 use harmony::chord::Chord;
 use harmony::pitch::Pitch;

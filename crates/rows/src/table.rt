@@ -11,7 +11,7 @@ ghost use Rattle.rows.specs.Tables.{counted, flat, refused-first, rows-for, ro
 ghost use Rattle.std.specs.Options.{Cases as BySome};
 ghost use Rattle.std.specs.declared.option.Option.the-variants.{None};
 ghost use Rattle.std.specs.declared.result.Result.the-variants.{Ok};
-use crate::search::find;
+use crate::completion::find;
 use harmony::chord::Chord;
 use harmony::refusal::Refusal;
 use harmony::voices::Voices;

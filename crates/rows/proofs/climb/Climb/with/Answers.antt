@@ -4,7 +4,7 @@ use native.Mathlib.Omega.{arith}
 use borrow.Author.Needs.{needs}
 use Rattle.rows.specs.Arrangements.{semitones-of}
 use Rattle.rows.specs.Enumeration.{above}
-use Rattle.rows.proofs.Searching.{chosen-more}
+use Rattle.rows.proofs.Completing.{chosen-more}
 use Rattle.rows.proofs.climb.Climb.with.Needs as need
 
 pub returns : need.returns

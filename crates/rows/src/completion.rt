@@ -1,4 +1,4 @@
-// The search for rows: from the lowest voice upward, until the voices are used up.
+// How a row is completed: from the lowest voice upward, until the voices are used up.
 ghost use Prim.Native.Nat.{ℕ, _≤_};
 ghost use lib.ListN.{drop, length};
 ghost use mathlib.Core.List.{List, [], map};
@@ -8,7 +8,7 @@ ghost use Rattle.harmony.specs.Ranges.{bounds};
 ghost use Rattle.harmony.specs.VoiceRanges.{ranges-of};
 ghost use Rattle.rows.specs.Arrangements.{semitones-of};
 ghost use Rattle.rows.specs.Enumeration.{In, Meant, rows as rows-of};
-ghost use Rattle.rows.specs.Search.{Completed, footing-of, grown};
+ghost use Rattle.rows.specs.Growth.{Completed, footing-of, grown};
 ghost use Rattle.rows.specs.Tables.{placed, rows-for};
 use crate::climb::Climb;
 use crate::row::Row;

@@ -3,9 +3,9 @@ use lib.ListN.{drop, length}
 use mathlib.Core.List.{map}
 use Rattle.harmony.specs.Ranges.{bounds}
 use Rattle.rows.specs.Arrangements.{semitones-of}
-use Rattle.rows.specs.Search.{Completed, footing-of}
-use Rattle.rows.proofs.Searching.{below, branch}
-use Rattle.rows.proofs.search.+complete.Given as given
+use Rattle.rows.specs.Growth.{Completed, footing-of}
+use Rattle.rows.proofs.Completing.{below, branch}
+use Rattle.rows.proofs.completion.+complete.Given as given
 use Rattle.std.specs.declared.result.Result.the-variants.{Ok}
 
 abbrev pub μ-complete : given.MeasureT-complete

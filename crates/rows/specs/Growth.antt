@@ -1,8 +1,8 @@
--- How the search for rows goes from voice to voice.
+-- How rows grow from voice to voice.
 --
 -- grown       the rows that begin with the pitches chosen so far
 -- footing-of  a footing of the code, as plain data
--- Completed   what a search answers that found these rows and had k before
+-- Completed   what is answered where these rows were found, behind k that came before
 use mathlib.Core.Bool.{cond}
 use mathlib.Core.List.{List, [], _∷_, _++_}
 use mathlib.Core.Path.{_≡_}

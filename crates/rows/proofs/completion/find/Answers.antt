@@ -6,10 +6,10 @@ use native.Mathlib.Omega.{arith}
 use Rattle.harmony.specs.Chords.{harmony}
 use Rattle.harmony.specs.Ranges.{bounds}
 use Rattle.rows.specs.Enumeration.{In, rows}
-use Rattle.rows.specs.Search.{Completed, footing-of}
+use Rattle.rows.specs.Growth.{Completed, footing-of}
 use Rattle.rows.proofs.Growing.{grown-start}
 use Rattle.rows.proofs.Meaning.{meant}
-use Rattle.rows.proofs.search.find.Needs as need
+use Rattle.rows.proofs.completion.find.Needs as need
 use Rattle.std.proofs.shelf.Lists.{length-take-le}
 
 pub complete-requires : need.complete-requires

@@ -5,10 +5,10 @@ use lib.ListN.{length}
 use native.Mathlib.Omega.{arith}
 use Rattle.rows.specs.Arrangements.{semitones-of}
 use Rattle.rows.specs.Enumeration.{In, rows}
-use Rattle.rows.specs.Search.{Completed, footing-of}
-use Rattle.rows.proofs.Searching.{at-voice, below, below-more, below-none, below-within, completed-both, completed-past, grown-here, grown-top, in-below, voice-next, voice-none}
-use Rattle.rows.proofs.search.+complete.Needs as need
-use Rattle.rows.proofs.search.+complete.Needs.{in-Some·in-Continue-found, in-rest}
+use Rattle.rows.specs.Growth.{Completed, footing-of}
+use Rattle.rows.proofs.Completing.{at-voice, below, below-more, below-none, below-within, completed-both, completed-past, grown-here, grown-top, in-below, voice-next, voice-none}
+use Rattle.rows.proofs.completion.+complete.Needs as need
+use Rattle.rows.proofs.completion.+complete.Needs.{in-Some·in-Continue-found, in-rest}
 use Rattle.std.specs.Iters.{counting}
 use Rattle.std.specs.Joined.{joined}
 use Rattle.std.proofs.shelf.Results.{err-from-errBy}

@@ -3,7 +3,7 @@ use Prim.Native.Nat.{_+_, _-_, _*_}
 use lib.ListN.{length, drop, take}
 use native.Mathlib.Omega.{arith}
 use Rattle.rows.proofs.Placing.{part-filled, placed-fits}
-use Rattle.rows.proofs.search.place.Needs as need
+use Rattle.rows.proofs.completion.place.Needs as need
 use Rattle.std.proofs.shelf.Lists.{length-drop, length-take}
 
 pub returns-then-from-width : need.returns-then-from-width
