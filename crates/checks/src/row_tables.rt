@@ -2,9 +2,9 @@
 use harmony::chord::Chord;
 use harmony::refusal::Refusal;
 use harmony::voices::Voices;
+use rows::progression::write_all;
 use rows::table::count;
 use rows::table::write;
-use rows::table::write_all;
 use std::test::*;
 
 const THREE: &[u8] = &[48, 60, 55, 67, 60, 72];

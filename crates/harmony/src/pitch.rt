@@ -59,8 +59,9 @@ impl PitchClass {
     pub const fn above(self, semitones: u8) -> PitchClass
         ensures { λ r. ⌜ r .index ≡ around (self .index + semitones) ⌝ }
     {
+        let sum = self.index as u16 + semitones as u16;
         PitchClass {
-            index: (self.index + semitones % 12) % 12,
+            index: (sum % 12) as u8,
         }
     }
 

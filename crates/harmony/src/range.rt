@@ -1,7 +1,7 @@
 // The range of a voice, and bounds that are not yet known to be one.
 ghost use mathlib.Core.Bool.{false, true};
 ghost use mathlib.Core.Path.{_≡_};
-ghost use Rattle.harmony.specs.Ranges.{bounds, not-lower, proper};
+ghost use Rattle.harmony.specs.Ranges.{bounds, proper};
 ghost use Rattle.std.specs.Options.{Cases as BySome};
 use crate::pitch::Pitch;
 
@@ -17,15 +17,6 @@ pub struct Bounds {
 pub struct Range {
     pub low: Pitch,
     pub high: Pitch,
-}
-
-impl Bounds {
-    // Whether neither bound is lower than that of the voice below.
-    pub fn stands_on(self, lower: Bounds) -> bool
-        ensures { λ r. ⌜ r ≡ not-lower lower self ⌝ }
-    {
-        lower.low <= self.low && lower.high <= self.high
-    }
 }
 
 impl Range {

@@ -13,8 +13,7 @@ use Rattle.harmony.specs.declared.range.Bounds.{Bounds}
 use Rattle.harmony.specs.declared.range.Range.{Range}
 use Rattle.rows.specs.Arrangements.{semitones-of}
 use Rattle.rows.specs.Enumeration.{Footing, In, above, less, may, pitches}
-use Rattle.rows.specs.Growth.{Completed, grown}
-use Rattle.rows.specs.Tables.{laid, placed}
+use Rattle.rows.specs.Growth.{Completed, grown, laid, placed}
 use Rattle.rows.proofs.Members.{in-counting, in-joined}
 use Rattle.std.proofs.shelf.Lists.{at-drop-more, drop-all, getD-map, length-append, length-map, map-push, take-more-set}
 use Rattle.std.proofs.shelf.Tests.{cond-true, cond-false}

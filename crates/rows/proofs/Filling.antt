@@ -15,8 +15,8 @@ use Rattle.harmony.specs.declared.refusal.Refusal.{Refusal}
 use Rattle.harmony.specs.declared.refusal.Refusal.the-variants.{NoRow, TooManyRows}
 use Rattle.rows.specs.Arrangements.{inside, within}
 use Rattle.rows.specs.Enumeration.{In, rows}
-use Rattle.rows.specs.Growth.{Completed}
-use Rattle.rows.specs.Tables.{all-few, all-some, count-unless, counted, flat, laid, placed, together}
+use Rattle.rows.specs.Growth.{Completed, laid, placed}
+use Rattle.rows.specs.Tables.{all-few, all-some, count-unless, counted, flat, together}
 use Rattle.rows.proofs.Meaning.{meant}
 use Rattle.std.proofs.shelf.Lists.{drop-at, drop-drop, length-append, length-drop, take-at}
 use Rattle.std.proofs.shelf.Tests.{and-parts, cond-true, false≢true, le-leb, leb-true}

@@ -12,8 +12,7 @@ use Rattle.harmony.specs.declared.pitch.Pitch.{Pitch}
 use Rattle.harmony.specs.declared.range.Bounds.{Bounds}
 use Rattle.rows.specs.Arrangements.{IsRow, semitones-of}
 use Rattle.rows.specs.Enumeration.{Footing, In, above, all-zero, bass, less, may, pitches, rows, rows-on}
-use Rattle.rows.specs.Growth.{Completed, grown}
-use Rattle.rows.specs.Tables.{placed}
+use Rattle.rows.specs.Growth.{Completed, grown, placed}
 use Rattle.rows.proofs.Meaning.{meant}
 use Rattle.std.proofs.shelf.Lists.{map-append, map-id}
 use Rattle.std.proofs.shelf.Tests.{cond-true, cond-false}

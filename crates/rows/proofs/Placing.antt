@@ -10,7 +10,7 @@ use Rattle.harmony.specs.declared.pitch.Pitch.{Pitch}
 use Rattle.harmony.specs.declared.refusal.Refusal.{Refusal}
 use Rattle.harmony.specs.declared.refusal.Refusal.the-variants.{ShortRowTable}
 use Rattle.rows.specs.Arrangements.{semitones-of}
-use Rattle.rows.specs.Tables.{placed}
+use Rattle.rows.specs.Growth.{placed}
 use Rattle.std.proofs.shelf.Lists.{append-nil, drop-all, drop-drop}
 use Rattle.std.proofs.shelf.Tests.{cond-true, le-leb}
 use Rattle.std.specs.Results.{Cases}

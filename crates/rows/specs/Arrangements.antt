@@ -1,10 +1,11 @@
 -- Arrangements and rows of a chord.
 --
--- inside     each voice has one pitch, in its own range
--- Arranged   an arrangement of a chord: voices may cross in it
--- IsRow      a row: an arrangement that never falls from one voice to the next
--- semitones-of   pitches as numbers
--- Earlier    of two rows, the one that is lower at the first voice where they differ
+-- inside         each voice has one pitch, in its own range
+-- Arranged       an arrangement of a chord: voices may cross in it
+-- ascends        no pitch is lower than that of the voice below
+-- IsRow          a row: an arrangement that never falls from one voice to the next
+-- Earlier        of two rows, the one that is lower at the first voice where they differ
+-- semitones-of   the first n pitches of the code, as numbers
 use mathlib.Core.Bool.{Bool, true, false, _&&_}
 use mathlib.Core.List.{List, [], _∷_, map}
 use mathlib.Core.Logic.{_⊎_}

@@ -1,15 +1,15 @@
 -- Rows in a table of bytes.
 --
--- flat     the bytes of rows, one row behind the other without a gap
--- placed   a table after a row was put at place k among rows of width n, where there is room for it
--- laid     a table after rows were put there one behind the other, from place k on
--- counted  how many rows chords have together, or why they are refused
--- written  a table after rows were written to its front
+-- flat         the bytes of rows, one row behind the other without a gap
+-- rows-for     the rows of a chord for some voices; rows-of-each, of each of several chords
+-- together     the rows of several chords as one list
+-- counted      how many rows chords have together, or why they are refused
+-- written      a table after rows were written to its front
 use mathlib.Core.Bool.{Bool, true, cond, _&&_}
 use mathlib.Core.List.{List, [], _∷_, _++_, map}
-use Prim.Native.Nat.{ℕ, _+_, _*_}
+use Prim.Native.Nat.{ℕ, _*_}
 use lib.Dec.{leb}
-use lib.ListN.{length, drop, take}
+use lib.ListN.{length, drop}
 use Rattle.harmony.specs.Chords.{harmony}
 use Rattle.harmony.specs.VoiceRanges.{ranges-of}
 use Rattle.harmony.specs.declared.chord.Chord.{Chord}
@@ -25,13 +25,6 @@ use Rattle.std.specs.declared.result.Result.the-variants.{Ok, Err}
 
 abbrev pub flat : List (List ℕ) → List ℕ
 flat rs = joined (λ r. r) rs
-
-abbrev pub placed : ℕ → List ℕ → ℕ → List ℕ → List ℕ
-placed n table k r = cond (leb (k * n + n) (length table)) (take (k * n) table ++ (r ++ drop (k * n + n) table)) table
-
-abbrev pub laid : ℕ → List ℕ → ℕ → List (List ℕ) → List ℕ
-laid n table k [] = table
-laid n table k (r ∷ rs) = laid n (placed n table k r) (k + 1) rs
 
 -- the rows of a chord, and of each of several chords, for these voices
 abbrev pub rows-for : Voices → Chord → List (List ℕ)

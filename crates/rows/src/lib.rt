@@ -2,5 +2,6 @@
 // It knows nothing of measures, boards or chart text.
 mod climb;
 mod completion;
+pub mod progression;
 pub mod row;
 pub mod table;

@@ -4,7 +4,7 @@ ghost use lib.ListN.{length, take};
 ghost use mathlib.Core.Bool.{false, true};
 ghost use mathlib.Core.List.{map};
 ghost use mathlib.Core.Path.{_≡_};
-ghost use Rattle.harmony.specs.Ranges.{all-proper, bounds, never-set, paired, rising, set-up, voices-of};
+ghost use Rattle.harmony.specs.Ranges.{all-proper, bounds, never-set, not-lower, paired, rising, set-up, voices-of};
 ghost use Rattle.harmony.specs.VoiceRanges.{ranges-of};
 ghost use Rattle.std.specs.Options.{Cases as BySome};
 ghost use Rattle.std.specs.Results.{Cases};
@@ -16,12 +16,19 @@ use crate::refusal::Refusal;
 use crate::voices::VoiceCount;
 use crate::voices::Voices;
 
+// Whether neither bound of a voice is lower than that of the voice below.
+fn stands_on(upper: Bounds, lower: Bounds) -> bool
+    ensures { λ r. ⌜ r ≡ not-lower lower upper ⌝ }
+{
+    lower.low <= upper.low && lower.high <= upper.high
+}
+
 // Whether neither the lows nor the highs fall from a voice to the next.
 fn rises(within: &[Bounds]) -> bool
     ensures { λ r. ⌜ r ≡ rising (now (within .entry)) ⌝ }
 {
     for i in 1..within.len() {
-        if !within[i].stands_on(within[i - 1]) {
+        if !stands_on(within[i], within[i - 1]) {
             return false;
         }
     }

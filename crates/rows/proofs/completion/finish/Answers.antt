@@ -7,8 +7,7 @@ use Rattle.harmony.specs.Chords.{harmony}
 use Rattle.harmony.specs.Ranges.{bounds}
 use Rattle.rows.specs.Arrangements.{IsRow, semitones-of}
 use Rattle.rows.specs.Enumeration.{all-zero}
-use Rattle.rows.specs.Growth.{footing-of}
-use Rattle.rows.specs.Tables.{placed}
+use Rattle.rows.specs.Growth.{footing-of, placed}
 use Rattle.rows.proofs.Growing.{completed-none, completed-one, grown-past, row-at-top}
 use Rattle.rows.proofs.completion.finish.Needs as need
 

@@ -3,8 +3,8 @@ use mathlib.Core.Path.{sym, ap, _∙_}
 use native.Mathlib.Omega.{arith}
 use Rattle.harmony.specs.declared.refusal.Refusal.the-variants.{TooManyRows}
 use Rattle.rows.proofs.Refusing.{refused-all, refused-few, refused-many, refused-none}
-use Rattle.rows.proofs.table.first_refused.Needs as need
-use Rattle.rows.proofs.table.first_refused.Needs.{in-Err, in-Ok·else-rows-eq0}
+use Rattle.rows.proofs.progression.first_refused.Needs as need
+use Rattle.rows.proofs.progression.first_refused.Needs.{in-Err, in-Ok·else-rows-eq0}
 use Rattle.std.specs.declared.option.Option.the-variants.{None, Some}
 
 pub returns-then-rows-eq0 : need.returns-then-rows-eq0

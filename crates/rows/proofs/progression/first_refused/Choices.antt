@@ -2,7 +2,7 @@ use lib.ListN.{drop}
 use mathlib.Core.Bool.{true}
 use mathlib.Core.Path.{_≡_}
 use Rattle.rows.specs.Tables.{refused-first, rows-of-each}
-use Rattle.rows.proofs.table.first_refused.Given as given
+use Rattle.rows.proofs.progression.first_refused.Given as given
 
 abbrev pub Inv-loop-chord : given.InvT-loop-chord
 Inv-loop-chord l =

@@ -6,8 +6,8 @@ use native.Mathlib.Omega.{arith}
 use Rattle.rows.specs.Tables.{flat, rows-for, rows-of-each, together}
 use Rattle.rows.proofs.Adding.{upto, upto-all}
 use Rattle.rows.proofs.Gapless.{filled-more}
-use Rattle.rows.proofs.table.fill.Needs as need
-use Rattle.rows.proofs.table.fill.Needs.{in-Ok, in-rest}
+use Rattle.rows.proofs.progression.fill.Needs as need
+use Rattle.rows.proofs.progression.fill.Needs.{in-Ok, in-rest}
 
 pub loop-chord-again : need.loop-chord-again
 loop-chord-again c =

@@ -4,7 +4,7 @@ use mathlib.Core.List.{_++_}
 use mathlib.Core.Path.{_≡_}
 use Rattle.rows.specs.Tables.{flat}
 use Rattle.rows.proofs.Adding.{upto}
-use Rattle.rows.proofs.table.fill.Given as given
+use Rattle.rows.proofs.progression.fill.Given as given
 
 abbrev pub Inv-loop-chord : given.InvT-loop-chord
 Inv-loop-chord l =

@@ -5,7 +5,7 @@ use native.Mathlib.Nat.{mul-le-mul-right}
 use native.Mathlib.Omega.{arith}
 use Rattle.rows.specs.Tables.{rows-of-each, together}
 use Rattle.rows.proofs.Adding.{add-fits, add-more, add-past, added-more, few-each, upto-all, upto-within}
-use Rattle.rows.proofs.table.add_up.Needs as need
+use Rattle.rows.proofs.progression.add_up.Needs as need
 
 pub rows-of-rows-requires : need.rows-of-rows-requires
 rows-of-rows-requires c κs =
