@@ -9,10 +9,11 @@ use Rattle.harmony.specs.declared.refusal.Refusal.the-variants.{LongChart}
 use Rattle.rowlist.specs.Headings.{of-line, opening, with-voices}
 use Rattle.std.proofs.shelf.Tests.{cond-true, le-leb}
 use Rattle.std.specs.declared.result.Result.the-variants.{Err}
+use Rattle.text.specs.Limits.{chart-limit}
 use Rattle.text.specs.RangeLines.{range-line}
 use Rattle.text.specs.Telling.{Told, voices-within}
 
-pub opened : (chart : List ℕ) (count : ℕ) (first : List Bounds) (end : ℕ) → Told chart count first end → length chart ≤ 8192 → opening chart ≡ with-voices (voices-within count first) (drop end chart)
+pub opened : (chart : List ℕ) (count : ℕ) (first : List Bounds) (end : ℕ) → Told chart count first end → length chart ≤ chart-limit → opening chart ≡ with-voices (voices-within count first) (drop end chart)
 opened chart count first end told short =
-    cond-true (leb (length chart) 8192) (of-line (range-line chart)) (Err LongChart) (le-leb (length chart) 8192 short) ∙ ap of-line (told .reads)
+    cond-true (leb (length chart) chart-limit) (of-line (range-line chart)) (Err LongChart) (le-leb (length chart) chart-limit short) ∙ ap of-line (told .reads)
     ∙ ap (λ vs. with-voices vs (told .line .rest)) (told .voices) ∙ ap (with-voices (voices-within count first)) (told .rest)

@@ -15,6 +15,7 @@ use Rattle.std.specs.declared.option.Option.{Option}
 use Rattle.std.specs.declared.option.Option.the-variants.{Some, None}
 use Rattle.std.specs.declared.result.Result.{Result}
 use Rattle.std.specs.declared.result.Result.the-variants.{Ok, Err}
+use Rattle.text.specs.Limits.{chart-limit}
 use Rattle.text.specs.RangeLines.{Line, range-line}
 
 pub record Opening : Type 0 where
@@ -30,4 +31,4 @@ of-line None = Err MalformedHeading
 of-line (Some line) = with-voices (voices-of (line .ranges)) (line .rest)
 
 abbrev pub opening : List ℕ → Result Opening Refusal
-opening chart = cond (leb (length chart) 8192) (of-line (range-line chart)) (Err LongChart)
+opening chart = cond (leb (length chart) chart-limit) (of-line (range-line chart)) (Err LongChart)
