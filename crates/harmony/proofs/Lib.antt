@@ -3,6 +3,7 @@ pub mod Counts
 pub mod Neighbours
 pub mod Notes
 pub mod Paired
+pub mod Passing
 pub mod Qualities
 pub mod Ranges
 pub mod Slashes

@@ -6,7 +6,7 @@
 use Prim.Native.Nat.{ℕ, _+_, _%_}
 use lib.Dec.{eqb, leb}
 use lib.ListN.{length}
-use mathlib.Core.Bool.{Bool, true, cond, _&&_}
+use mathlib.Core.Bool.{Bool, cond, _&&_}
 use mathlib.Core.List.{List, [], _∷_}
 use Rattle.harmony.specs.Neighbours.{neighbours}
 use Rattle.harmony.specs.declared.range.Bounds.{Bounds}
@@ -15,6 +15,7 @@ use Rattle.harmony.specs.declared.refusal.Refusal.{Refusal}
 use Rattle.harmony.specs.declared.refusal.Refusal.the-variants.{VoiceNumber, ImproperRange, FallingRange}
 use Rattle.std.specs.declared.result.Result.{Result}
 use Rattle.std.specs.declared.result.Result.the-variants.{Ok, Err}
+use Rattle.std.specs.shelf.Lawful.{all-pass}
 
 abbrev pub bounds : Range → Bounds
 bounds r = record { low = r .low .semitones; high = r .high .semitones }
@@ -23,8 +24,7 @@ abbrev pub proper : Bounds → Bool
 proper b = leb (b .high) 127 && (leb (b .low) (b .high) && leb (b .high) (b .low + 24))
 
 abbrev pub all-proper : List Bounds → Bool
-all-proper [] = true
-all-proper (b ∷ bs) = proper b && all-proper bs
+all-proper bs = all-pass proper bs
 
 -- the second of two neighbours has neither a lower low nor a lower high
 abbrev pub not-lower : Bounds → Bounds → Bool

@@ -2,21 +2,22 @@
 use mathlib.Core.Bool.{Bool, true, false, cond}
 use mathlib.Core.List.{List, [], _∷_, _++_, append-assoc, append-nil}
 use mathlib.Core.Path.{_≡_, refl, sym, ap, subst, _∙_}
-use Prim.Native.Nat.{ℕ, zero, suc, _+_, _-_, _*_, _<_, _≤_}
+use Prim.Native.Nat.{ℕ, _+_, _-_, _*_, _<_, _≤_}
 use lib.Dec.{leb}
 use lib.ListN.{length, drop, getD, take}
 use native.Mathlib.Nat.{add-mul, le-mul-of-pos-right, mul-le-mul-right}
 use native.Mathlib.Omega.{arith}
+use Rattle.harmony.proofs.Passing.{pass-at}
 use Rattle.harmony.specs.declared.chord.Chord.{Chord}
 use Rattle.harmony.specs.declared.refusal.Refusal.the-variants.{NoRow, TooManyRows}
 use Rattle.harmony.specs.declared.voices.Voices.{Voices}
 use Rattle.rows.specs.Tables.{all-few, all-some, refused-first, rows-for, rows-of-each, together}
 use Rattle.std.proofs.shelf.Lists.{length-append, map-append, take-all, take-append-drop, take-more}
-use Rattle.std.proofs.shelf.Tests.{and-parts, leb-true}
+use Rattle.std.proofs.shelf.Tests.{leb-true}
 use Rattle.std.specs.declared.option.Option.the-variants.{Some, None}
 
 -- where none is refused, each has a row and none has too many
-pub accepted : (rss : List (List (List ℕ))) → refused-first true rss ≡ None → (all-some rss ≡ true) × (all-few rss ≡ true)
+accepted : (rss : List (List (List ℕ))) → refused-first true rss ≡ None → (all-some rss ≡ true) × (all-few rss ≡ true)
 accepted rss e = parts (all-some rss) (all-few rss) e
   where
     parts : (a b : Bool) → cond a (cond b None (Some TooManyRows)) (Some NoRow) ≡ None → (a ≡ true) × (b ≡ true)
@@ -24,13 +25,16 @@ accepted rss e = parts (all-some rss) (all-few rss) e
     parts true false e = let z : _≡_ {A = ℕ} 0 1 = cc in absurd (omega arith)
     parts false b e = let z : _≡_ {A = ℕ} 0 1 = cc in absurd (omega arith)
 
-few-at : (voices : Voices) (chords : List Chord) (i : ℕ) (d : Chord) → i < length chords → all-few (rows-of-each voices chords) ≡ true → length (rows-for voices (getD chords i d)) ≤ 256
-few-at voices [] i d h e = absurd (omega arith)
-few-at voices (c ∷ cs) zero d h e = leb-true _ 256 (and-parts (leb (length (rows-for voices c)) 256) _ e .0)
-few-at voices (c ∷ cs) (suc i) d h e = few-at voices cs i d (omega arith) (and-parts (leb (length (rows-for voices c)) 256) _ e .1)
+-- what holds of each
+pub some-each : (voices : Voices) (chords : List Chord) (i : ℕ) (c : Chord) → i < length chords → c ≡ getD chords i c → refused-first true (rows-of-each voices chords) ≡ None → 1 ≤ length (rows-for voices c)
+some-each voices chords i c h is e =
+    subst (λ d. 1 ≤ length (rows-for voices d)) (sym is)
+    (leb-true 1 _ (pass-at (λ rs. leb 1 (length rs)) (rows-for voices) chords i c h (accepted (rows-of-each voices chords) e .0)))
 
 pub few-each : (voices : Voices) (chords : List Chord) (i : ℕ) (c : Chord) → i < length chords → c ≡ getD chords i c → refused-first true (rows-of-each voices chords) ≡ None → length (rows-for voices c) ≤ 256
-few-each voices chords i c h is e = subst (λ d. length (rows-for voices d) ≤ 256) (sym is) (few-at voices chords i c h (accepted (rows-of-each voices chords) e .1))
+few-each voices chords i c h is e =
+    subst (λ d. length (rows-for voices d) ≤ 256) (sym is)
+    (leb-true _ 256 (pass-at (λ rs. leb (length rs) 256) (rows-for voices) chords i c h (accepted (rows-of-each voices chords) e .1)))
 
 together-append : (xss yss : List (List (List ℕ))) → together (xss ++ yss) ≡ together xss ++ together yss
 together-append [] yss = refl

@@ -1,16 +1,16 @@
 -- What is left of a chord's counts as the voices sing.
-use mathlib.Core.Bool.{true, false, _&&_}
+use mathlib.Core.Bool.{true}
 use mathlib.Core.List.{List, [], _∷_}
 use mathlib.Core.Path.{_≡_, refl, sym, ap, subst, _∙_}
 use Prim.Native.Nat.{ℕ, _+_, _-_, _<_, _≤_}
 use lib.Dec.{eqb}
-use lib.ListN.{length, drop, getD, replicate, set}
+use lib.ListN.{length, getD, replicate, set}
 use native.Mathlib.Omega.{arith}
 use Rattle.harmony.specs.Chords.{tally}
 use Rattle.harmony.proofs.Tally.{length-tally, tally-cons}
 use Rattle.rows.specs.Enumeration.{all-zero, less}
-use Rattle.std.proofs.shelf.Lists.{at-drop-all, at-drop-more, getD-set-same, length-set, set-getD, set-set}
-use Rattle.std.proofs.shelf.Tests.{and-parts, eq-eqb, eqb-true, ne-eqb}
+use Rattle.std.proofs.shelf.Lists.{getD-set-same, length-set, set-getD, set-set}
+use Rattle.std.proofs.shelf.Tests.{and-parts, eqb-true}
 
 module _ (left : List ℕ) (c : ℕ) (cs : List ℕ) (full : length left ≡ 12) (small : c < 12) where
   -- where a class is sung first, its count is not yet used up, and the rest is sung to what is left
@@ -49,17 +49,3 @@ zero-tally left full z = sym (zeros left z ∙ ap (λ n. replicate n 0) full)
 
 pub tally-zero : (left : List ℕ) → tally [] ≡ left → all-zero left ≡ true
 tally-zero left e = subst (λ l. all-zero l ≡ true) e refl
-
--- a loop that has come to i and met nothing but zeros knows the rest: one turn more, a failure, the end
-module _ (ks : List ℕ) (i : ℕ) (inv : all-zero (drop i ks) ≡ all-zero ks) where
-  there : i < length ks → all-zero (drop i ks) ≡ (eqb (getD ks i 0) 0 && all-zero (drop (i + 1) ks))
-  there h = at-drop-more all-zero ks i 0 h
-
-  pub zero-more : i < length ks → getD ks i 0 ≡ 0 → all-zero (drop (i + 1) ks) ≡ all-zero ks
-  zero-more h e = sym (rw (eq-eqb (getD ks i 0) 0 e) at (there h)) ∙ inv
-
-  pub zero-fail : i < length ks → (getD ks i 0 ≡ 0 → ⊥) → false ≡ all-zero ks
-  zero-fail h ne = sym (rw (ne-eqb (getD ks i 0) 0 ne) at (there h)) ∙ inv
-
-  pub zero-all : length ks ≤ i → true ≡ all-zero ks
-  zero-all h = sym (at-drop-all all-zero ks i h) ∙ inv

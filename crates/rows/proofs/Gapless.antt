@@ -2,7 +2,7 @@
 use mathlib.Core.Bool.{true}
 use mathlib.Core.List.{List, [], _∷_, _++_, append-assoc, append-nil}
 use mathlib.Core.Path.{_≡_, refl, sym, ap, subst, _∙_}
-use Prim.Native.Nat.{ℕ, zero, suc, _+_, _-_, _*_, _<_, _≤_}
+use Prim.Native.Nat.{ℕ, _+_, _-_, _*_, _<_, _≤_}
 use lib.Dec.{leb}
 use lib.ListN.{length, drop, getD, take}
 use native.Mathlib.Nat.{add-mul, mul-le-mul-right, suc-mul, zero-mul}
@@ -15,12 +15,12 @@ use Rattle.harmony.specs.declared.chord.Chord.{Chord}
 use Rattle.harmony.specs.declared.refusal.Refusal.{Refusal}
 use Rattle.harmony.specs.declared.refusal.Refusal.the-variants.{ShortRowTable}
 use Rattle.harmony.specs.declared.voices.Voices.{Voices}
-use Rattle.rows.specs.Tables.{all-some, counted, flat, refused-first, rows-for, rows-of-each, together, with-room, written}
-use Rattle.rows.proofs.Adding.{accepted, few-each, upto, upto-more, upto-within}
+use Rattle.rows.specs.Tables.{counted, flat, refused-first, rows-for, rows-of-each, together, with-room, written}
+use Rattle.rows.proofs.Adding.{few-each, some-each, upto, upto-more, upto-within}
 use Rattle.rows.proofs.Filling.{rows-length}
 use Rattle.std.proofs.shelf.Elements.{all-append}
 use Rattle.std.proofs.shelf.Lists.{drop-append-le, drop-at, drop-drop, length-append, length-drop, length-map, length-take-le, take-append-drop, take-at}
-use Rattle.std.proofs.shelf.Tests.{and-parts, cond-true, le-leb, leb-true}
+use Rattle.std.proofs.shelf.Tests.{cond-true, le-leb}
 use Rattle.std.specs.declared.option.Option.the-variants.{None}
 use Rattle.std.specs.declared.result.Result.{Result}
 use Rattle.std.specs.declared.result.Result.the-variants.{Ok, Err}
@@ -44,11 +44,6 @@ wide voices c =
 all-wide : (voices : Voices) (chords : List Chord) → All (λ r. length r ≡ voices .count .number) (together (rows-of-each voices chords))
 all-wide voices [] = tt
 all-wide voices (c ∷ cs) = all-append (λ r. length r ≡ voices .count .number) (rows-for voices c) (together (rows-of-each voices cs)) (wide voices c) (all-wide voices cs)
-
-some-at : (voices : Voices) (chords : List Chord) (i : ℕ) (d : Chord) → i < length chords → all-some (rows-of-each voices chords) ≡ true → 1 ≤ length (rows-for voices (getD chords i d))
-some-at voices [] i d h e = absurd (omega arith)
-some-at voices (c ∷ cs) zero d h e = leb-true 1 _ (and-parts (leb 1 (length (rows-for voices c))) _ e .0)
-some-at voices (c ∷ cs) (suc i) d h e = some-at voices cs i d (omega arith) (and-parts (leb 1 (length (rows-for voices c))) _ e .1)
 
 -- where a chord is not refused and there is room, its rows are written
 counted-one : (rs : List (List ℕ)) → 1 ≤ length rs → length rs ≤ 256 → counted (rs ∷ []) ≡ Ok (length rs)
@@ -96,7 +91,7 @@ module _ (voices : Voices) (chords : List Chord) (i from end : ℕ) (c : Chord) 
       let free : length (drop from start) ≡ length start - from = length-drop from start in
       let tail : drop from now ≡ drop from start = ap (drop from) so-far ∙ drop-at front (drop from start) from long in
       let part : length (take (end - from) (drop from now)) ≡ end - from = length-take-le (end - from) (drop from now) (omega (arith, ap length tail)) in
-      let some = subst (λ d. 1 ≤ length (rows-for voices d)) (sym is) (some-at voices chords i c h (accepted (rows-of-each voices chords) none .0)) in
+      let some = some-each voices chords i c h is none in
       let one = accepted-one n rs (take (end - from) (drop from now)) after r some (few-each voices chords i c h is none) (omega (arith, part)) answer table in
       record {
         is = one .0;

@@ -6,7 +6,7 @@
 -- rows-on    the pitches that the voices from here up can add, the counts that are left being these
 -- rows       all rows of a chord, each once, the earlier ones first
 -- Meant      what `rows` means: it has exactly the rows, in strict order
-use mathlib.Core.Bool.{Bool, true, cond, _&&_}
+use mathlib.Core.Bool.{Bool, cond, _&&_}
 use mathlib.Core.List.{List, [], _∷_, map}
 use mathlib.Core.Logic.{_⊎_}
 use mathlib.Core.Path.{_≡_}
@@ -19,6 +19,7 @@ use Rattle.harmony.specs.declared.range.Bounds.{Bounds}
 use Rattle.rows.specs.Arrangements.{Earlier, IsRow}
 use Rattle.std.specs.Iters.{counting}
 use Rattle.std.specs.Joined.{joined}
+use Rattle.std.specs.shelf.Lawful.{all-pass}
 use Rattle.std.specs.shelf.Lists.{All}
 
 pub data Footing : Type 0 where
@@ -36,8 +37,7 @@ abbrev pub less : List ℕ → ℕ → List ℕ
 less left c = set left c (getD left c 0 - 1)
 
 abbrev pub all-zero : List ℕ → Bool
-all-zero [] = true
-all-zero (k ∷ ks) = eqb k 0 && all-zero ks
+all-zero ks = all-pass (λ k. eqb k 0) ks
 
 -- a voice may take a pitch that its footing bears and whose class is still to be sung
 abbrev pub may : Footing → List ℕ → ℕ → Bool

@@ -6,7 +6,7 @@
 -- counted      how many rows chords have together, or why they are refused
 -- written      a table after rows were written to its front
 use mathlib.Core.Bool.{Bool, true, cond, _&&_}
-use mathlib.Core.List.{List, [], _∷_, _++_, map}
+use mathlib.Core.List.{List, _++_, map}
 use Prim.Native.Nat.{ℕ, _*_}
 use lib.Dec.{leb}
 use lib.ListN.{length, drop}
@@ -22,6 +22,7 @@ use Rattle.std.specs.declared.option.Option.{Option}
 use Rattle.std.specs.declared.option.Option.the-variants.{Some, None}
 use Rattle.std.specs.declared.result.Result.{Result}
 use Rattle.std.specs.declared.result.Result.the-variants.{Ok, Err}
+use Rattle.std.specs.shelf.Lawful.{all-pass}
 
 abbrev pub flat : List (List ℕ) → List ℕ
 flat rs = joined (λ r. r) rs
@@ -38,12 +39,10 @@ together rss = joined (λ rs. rs) rss
 
 -- every chord has a row; none has more than 256
 abbrev pub all-some : List (List (List ℕ)) → Bool
-all-some [] = true
-all-some (rs ∷ rss) = leb 1 (length rs) && all-some rss
+all-some rss = all-pass (λ rs. leb 1 (length rs)) rss
 
 abbrev pub all-few : List (List (List ℕ)) → Bool
-all-few [] = true
-all-few (rs ∷ rss) = leb (length rs) 256 && all-few rss
+all-few rss = all-pass (λ rs. leb (length rs) 256) rss
 
 -- the first condition that a chord meets, each over all chords before the next; few says that none before had too many
 abbrev pub refused-first : Bool → List (List (List ℕ)) → Option Refusal
