@@ -1,4 +1,6 @@
 // The cases that were worked by hand, as one list, and the promise that the definitions of all layers yield them.
+#![tactic(auto)]
+
 ghost use Rattle.std.specs.Prelude.{◌≡◌, length};
 ghost use Rattle.cases.specs.Worked.{Yielded, worked};
 

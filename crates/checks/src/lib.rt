@@ -1,4 +1,6 @@
 // Checks of the layers from outside: tables worked by hand, every refusal at its boundary, buffers that stay untouched.
+#![tactic(auto)]
+
 #[cfg(test)]
 mod lines;
 #[cfg(test)]

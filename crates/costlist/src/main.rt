@@ -1,4 +1,6 @@
 // Prints what lists of moves cost: a line of standard input has a measure's letter and moves, parted by spaces, and its line of standard output has the letter, the number of moves and the figures.
+#![tactic(auto)]
+
 ghost use Rattle.std.specs.Prelude.{◌≡◌, [], ◌∷◌, MatchOption, ◌≢◌};
 ghost use Rattle.house.specs.Letters.{letter_of};
 ghost use Rattle.house.specs.declared.named.HouseMeasure.{HouseMeasure};

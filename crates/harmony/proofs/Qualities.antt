@@ -1,16 +1,9 @@
 -- The search for the quality that a text names.
-use Rattle.std.proofs.Common.{◌≡◌, ℕ, ◌+◌, ◌<◌, Bool, true, false, cond, List, length, get_or, drop, Some, Decides, Option, sym, ◌∙◌, rules}
+use Rattle.std.proofs.Common.{◌≡◌, ℕ, ◌+◌, ◌<◌, true, false, cond, List, length, get_or, drop, Some, Option, sym, ◌∙◌}
 use Rattle.harmony.specs.Qualities.{name_of, named_among}
 use Rattle.harmony.specs.declared.quality.Quality.{Quality}
-use Rattle.std.proofs.lemmas.Slice.Eq.{slice_eq-Decides, bytes_eq-Decides}
 use Rattle.std.proofs.lemmas.List.{at_drop_more}
-use Rattle.std.specs.Cmp.Lexicographic.{Matches}
 use Rattle.std.specs.Str.{bytes_eq}
-use Rattle.std.proofs.lemmas.Bool.Decides.{Decides-eqb}
-
--- what a comparison of two texts found, where the second is known
-pub same_found : (xs ys zs : List ℕ) (r : Bool) → Matches (λ (a b : ℕ) (t : Bool). Decides t (a ≡ b)) xs ys r → ys ≡ zs → bytes_eq xs zs ≡ r
-same_found xs ys zs r h e = let d : Decides r (xs ≡ ys) = slice_eq-Decides Decides-eqb xs ys r h in rw (sym e) (search (rules, bytes_eq-Decides))
 
 module _ (qs : List Quality) (text : List ℕ) (i : ℕ) (d : Quality) (o : Option Quality) (inside : i < length qs) (left : named_among (drop i qs) text ≡ o) where
   there : o ≡ cond (bytes_eq text (name_of (get_or qs i d))) (Some (get_or qs i d)) (named_among (drop (i + 1) qs) text)

@@ -1,5 +1,7 @@
 // What a measure of movement is: the two traits with their laws, what these say of lists of moves, and the pair of any two measures.
 // It knows moves, figures and costs, and nothing of classes, chords, rows or boards.
+#![tactic(auto)]
+
 pub mod figures;
 pub mod laws;
 pub mod line;

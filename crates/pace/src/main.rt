@@ -1,4 +1,6 @@
 // Times a loop of pushes and compares under each measure of the house. Standard input has the number of rounds; without one it times nothing. `scripts/compare-pace` runs it beside the same loop in plain Rust.
+#![tactic(auto)]
+
 use harmony::moves::Move;
 use house::largest::Largest;
 use house::named::SUM_THEN_LARGEST;

@@ -1,4 +1,6 @@
 // Lists the rows of chord symbols: a line of ranges and then symbols from standard input, their rows to standard output.
+#![tactic(auto)]
+
 mod heading;
 mod input;
 mod listing;

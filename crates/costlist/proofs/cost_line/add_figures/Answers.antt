@@ -8,7 +8,7 @@ loop-figure-preserved c =
     let figures = c.args.figures.now in
     let at = c.loop-figure.figure-index in
     let start = string_bytes c.args.page.now in
-    c.in-ok-write.ensures.bytes ∙ ap (λ t. t ++ 32 ∷ decimal (get_or figures at 0)) c.loop-figure.invariant ∙ flat_map_more (λ n. 32 ∷ decimal n) start (take at figures) (get_or figures at 0) ∙ ap (λ ns. start ++ spaced ns) (sym (take_more figures at 0 c.loop-figure-test.true))
+    c.in_ok-write.ensures.bytes ∙ ap (λ t. t ++ 32 ∷ decimal (get_or figures at 0)) c.loop-figure.invariant ∙ flat_map_more (λ n. 32 ∷ decimal n) start (take at figures) (get_or figures at 0) ∙ ap (λ ns. start ++ spaced ns) (sym (take_more figures at 0 c.loop-figure-test.true))
 
 pub returns : goal.returns
 returns c = c.loop-figure.invariant ∙ ap (λ ns. string_bytes c.args.page.now ++ spaced ns) (take_all c.loop-figure.figure-index c.args.figures.now c.loop-figure-test.false)

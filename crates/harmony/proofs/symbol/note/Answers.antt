@@ -7,6 +7,6 @@ pub returns : goal.returns
 returns c =
     let text = c.args.text.now in
     let told = c.accidental.ensures in (
-      note_from text _ _ _ (omega (arith, ltb-false)) told.letter c.in-ok-letter.ensures (rw (take_rest text 1) at told.is),
+      note_from text _ _ _ (omega (arith, ltb-false)) told.letter c.in_ok-letter.ensures (rw (take_rest text 1) at told.is),
       omega (arith, ltb-false, length-drop 1 text, rw (take_rest text 1) at told.within),
     )

@@ -4,19 +4,19 @@ use Rattle.rowlist.proofs.Opened.{opened}
 use Rattle.rowlist.proofs.heading.read_heading.Goals as goal
 use Rattle.std.proofs.lemmas.Result.{err_from_is_err_and}
 
-pub returns-in-err-voices : goal.returns-in-err-voices
-returns-in-err-voices c =
+pub returns-in_err-voices : goal.returns-in_err-voices
+returns-in_err-voices c =
     let chart = c.args.chart.now in
-    let line = c.in-ok-line.line in
-    let p = err_from_is_err_and c.from-residual-in-err-voices.result c.from-residual-in-err-voices.ensures.1 in
+    let line = c.in_ok-line.line in
+    let p = err_from_is_err_and c.from_residual-in_err-voices.result c.from_residual-in_err-voices.ensures.1 in
     rw (p.1, p.2)
-    (opened chart line.count line.first line.end c.in-ok-line.ensures.told (omega arith)
-    ∙ ap (λ vs. with_voices vs (drop line.end chart)) c.in-err-voices.ensures)
+    (opened chart line.count line.first line.end c.in_ok-line.ensures.told (omega arith)
+    ∙ ap (λ vs. with_voices vs (drop line.end chart)) c.in_err-voices.ensures)
 
 pub returns : goal.returns
 returns c =
     let chart = c.args.chart.now in
-    let line = c.in-ok-line.line in
+    let line = c.in_ok-line.line in
     rw c.end.ensures
-    (opened chart line.count line.first line.end c.in-ok-line.ensures.told (omega arith)
-    ∙ ap (λ vs. with_voices vs (drop line.end chart)) c.in-ok-voices.ensures)
+    (opened chart line.count line.first line.end c.in_ok-line.ensures.told (omega arith)
+    ∙ ap (λ vs. with_voices vs (drop line.end chart)) c.in_ok-voices.ensures)

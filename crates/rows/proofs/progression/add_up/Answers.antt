@@ -3,8 +3,8 @@ use Rattle.rows.specs.Tables.{rows_of_each, together}
 use Rattle.rows.proofs.Adding.{add_fits, add_more, add_past, added_more, few_each, upto_all, upto_within}
 use Rattle.rows.proofs.progression.add_up.Goals as goal
 
-pub rows-of-rows-requires : goal.rows-of-rows-requires
-rows-of-rows-requires c =
+pub rows_of-rows-requires : goal.rows_of-rows-requires
+rows_of-rows-requires c =
     few_each c.args.voices.now c.args.chords.now c.loop-chord.chord-index c.chord-item.result (omega arith) c.chord-item.is c.requires
 
 pub returns-then-free-rows : goal.returns-then-free-rows
@@ -13,21 +13,21 @@ returns-then-free-rows c =
     let chords = c.args.chords.now in
     let all = length (together (rows_of_each voices chords)) in
     let same : c.number-width.result ≡ voices.count.number = c.number-width.ensures ∙ ap (λ v. v.number) c.count.ensures in
-    let more = added_more voices chords c.loop-chord.chord-index c.chord-item.result (omega arith) c.chord-item.is c.loop-chord.total c.rows-of-rows.result c.loop-chord.invariant.1 c.rows-of-rows.ensures in
+    let more = added_more voices chords c.loop-chord.chord-index c.chord-item.result (omega arith) c.chord-item.is c.loop-chord.total c.rows_of-rows.result c.loop-chord.invariant.1 c.rows_of-rows.ensures in
     subst (λ w. c.args.room < all * w) same
-    (add_past c.loop-chord.total c.rows-of-rows.result c.number-width.result c.loop-chord.free c.args.room all c.if-free-rows.true c.loop-chord.invariant.0
+    (add_past c.loop-chord.total c.rows_of-rows.result c.number-width.result c.loop-chord.free c.args.room all c.if-free-rows.true c.loop-chord.invariant.0
     (omega (arith, more, upto_within voices chords (c.loop-chord.chord-index + 1))))
 
-pub overflow-add-total : goal.overflow-add-total
-overflow-add-total c =
+pub overflow_add-total : goal.overflow_add-total
+overflow_add-total c =
     let same : c.number-width.result ≡ c.args.voices.now.count.number = c.number-width.ensures ∙ ap (λ v. v.number) c.count.ensures in
-    let fits = add_fits c.loop-chord.total c.rows-of-rows.result c.number-width.result c.loop-chord.free c.args.room (omega (arith, same, c.args.voices.now.count.fewest)) c.if-free-rows.false c.loop-chord.invariant.0 in
+    let fits = add_fits c.loop-chord.total c.rows_of-rows.result c.number-width.result c.loop-chord.free c.args.room (omega (arith, same, c.args.voices.now.count.fewest)) c.if-free-rows.false c.loop-chord.invariant.0 in
     omega (arith, fits, c.ranges.room)
 
 pub loop-chord-preserved : goal.loop-chord-preserved
 loop-chord-preserved c = (
-  add_more c.loop-chord.total c.rows-of-rows.result c.number-width.result c.loop-chord.free c.args.room c.if-free-rows.false c.loop-chord.invariant.0,
-  added_more c.args.voices.now c.args.chords.now c.loop-chord.chord-index c.chord-item.result (omega arith) c.chord-item.is c.loop-chord.total c.rows-of-rows.result c.loop-chord.invariant.1 c.rows-of-rows.ensures,
+  add_more c.loop-chord.total c.rows_of-rows.result c.number-width.result c.loop-chord.free c.args.room c.if-free-rows.false c.loop-chord.invariant.0,
+  added_more c.args.voices.now c.args.chords.now c.loop-chord.chord-index c.chord-item.result (omega arith) c.chord-item.is c.loop-chord.total c.rows_of-rows.result c.loop-chord.invariant.1 c.rows_of-rows.ensures,
 )
 
 pub returns : goal.returns
@@ -39,10 +39,10 @@ returns c =
       subst (λ w. c.loop-chord.total * w ≤ c.args.room) same room,
     )
 
-pub overflow-mul-rows : goal.overflow-mul-rows
-overflow-mul-rows c =
-    let few : c.rows-of-rows.result ≤ 256 =
-    subst (λ k. k ≤ 256) (sym c.rows-of-rows.ensures)
+pub overflow_mul-rows : goal.overflow_mul-rows
+overflow_mul-rows c =
+    let few : c.rows_of-rows.result ≤ 256 =
+    subst (λ k. k ≤ 256) (sym c.rows_of-rows.ensures)
     (few_each c.args.voices.now c.args.chords.now c.loop-chord.chord-index c.chord-item.result (omega arith) c.chord-item.is c.requires) in
     let same : c.number-width.result ≡ c.args.voices.now.count.number = c.number-width.ensures ∙ ap (λ v. v.number) c.count.ensures in
     omega (arith, mul-le-mul_right c.number-width.result few, same, c.args.voices.now.count.most)

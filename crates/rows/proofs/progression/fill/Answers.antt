@@ -3,7 +3,7 @@ use Rattle.rows.specs.Tables.{flat, rows_for, rows_of_each, together}
 use Rattle.rows.proofs.Adding.{upto, upto_all}
 use Rattle.rows.proofs.Gapless.{filled_more}
 use Rattle.rows.proofs.progression.fill.Goals as goal
-use Rattle.rows.proofs.progression.fill.Goals.{in-Ok, in-default}
+use Rattle.rows.proofs.progression.fill.Goals.{in-Ok, in_default}
 
 pub loop-chord-preserved : goal.loop-chord-preserved
 loop-chord-preserved c =
@@ -20,7 +20,7 @@ loop-chord-preserved c =
             more.table ∙ ap (λ k. flat (upto voices chords (c.loop-chord.chord-index + 1)) ++ drop k c.args.table.now) (sym next),
             omega (arith, next, more.within),
           ))
-      | in-default w ↦ absurd (w.in-default.not-Ok _ more.is)
+      | in_default w ↦ absurd (w.in_default.not-Ok _ more.is)
     ]
 
 pub returns : goal.returns

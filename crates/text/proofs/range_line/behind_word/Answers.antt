@@ -6,11 +6,11 @@ use Rattle.text.proofs.LineForms.{line_form}
 use Rattle.text.proofs.Scans.{scan_ends, scan_misplaced, scan_more, scan_short}
 use Rattle.text.proofs.range_line.behind_word.Goals as goal
 
-pub returns-in-default : goal.returns-in-default
-returns-in-default c =
+pub returns-in_default : goal.returns-in_default
+returns-in_default c =
     let chart = c.args.chart.now in
     record {
-      told = (refl, scan_misplaced chart c.loop-i.i _ _ _ c.loop-i.invariant.4 (omega arith) c.in-default.ensures);
+      told = (refl, scan_misplaced chart c.loop-i.i _ _ _ c.loop-i.invariant.4 (omega arith) c.in_default.ensures);
       form = line_form chart;
     }
 

@@ -4,8 +4,8 @@ use Rattle.harmony.proofs.Counts.{count_le, counts_all, counts_more}
 use Rattle.harmony.proofs.chord.reading.counts.Goals as goal
 use Rattle.std.proofs.lemmas.List.{length-append}
 
-pub overflow-add-counts : goal.overflow-add-counts
-overflow-add-counts c = omega (arith, count_le c.args.root.index _ c.loop-i.i c.index.result c.loop-i.counts (omega arith) c.loop-i.invariant)
+pub overflow_add-counts : goal.overflow_add-counts
+overflow_add-counts c = omega (arith, count_le c.args.root.index _ c.loop-i.i c.index.result c.loop-i.counts (omega arith) c.loop-i.invariant)
 
 pub loop-i-preserved : goal.loop-i-preserved
 loop-i-preserved c =

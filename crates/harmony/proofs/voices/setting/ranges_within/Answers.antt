@@ -5,14 +5,14 @@ use Rattle.harmony.proofs.Ranges.{bounds_more}
 use Rattle.harmony.proofs.voices.setting.ranges_within.Goals as goal
 use Rattle.std.proofs.lemmas.List.{take_all}
 
-pub returns-in-err-ranges : goal.returns-in-err-ranges
-returns-in-err-ranges c =
-    rw c.from-residual.ensures
-    (sym (pass_fail proper c.args.within.now c.loop-i.i _ c.loop-i.invariant.0 _ (omega arith) c.in-err-ranges.ensures))
+pub returns-in_err-ranges : goal.returns-in_err-ranges
+returns-in_err-ranges c =
+    rw c.from_residual.ensures
+    (sym (pass_fail proper c.args.within.now c.loop-i.i _ c.loop-i.invariant.0 _ (omega arith) c.in_err-ranges.ensures))
 
 pub loop-i-preserved : goal.loop-i-preserved
 loop-i-preserved c =
-    let told = c.in-ok-ranges.ensures in (
+    let told = c.in_ok-ranges.ensures in (
       pass_more proper c.args.within.now c.loop-i.i _ c.loop-i.invariant.0 _ (omega arith) told.0,
       bounds_more _ _ c.loop-i.i _ _ (omega arith) (omega arith) told.1 c.loop-i.invariant.1,
       search rules,

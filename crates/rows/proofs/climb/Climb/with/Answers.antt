@@ -7,10 +7,10 @@ use Rattle.rows.proofs.climb.Climb.with.Goals as goal
 pub returns : goal.returns
 returns c =
     let climb = c.args.self in
-    let same = c.in-ok-pitch.ensures in (
+    let same = c.in_ok-pitch.ensures in (
       search rules,
       refl,
-      chosen_more climb.pitches climb.voices c.in-ok-pitch.pitch (omega (arith, climb.full))
+      chosen_more climb.pitches climb.voices c.in_ok-pitch.pitch (omega (arith, climb.full))
           ∙ ap (λ p. semitones_of climb.voices climb.pitches ++ p ∷ []) same,
       ap above same,
       search rules,
