@@ -5,7 +5,7 @@ use Rattle.text.proofs.reader.past_blanks.Goals as goal
 
 pub returns-then-not-is_blank : goal.returns-then-not-is_blank
 returns-then-not-is_blank c =
-    let stop = sym c.is-blank.ensures ∙ c.if-not-is_blank.true in
+    let stop = sym c.is_blank.ensures ∙ c.if-not-is_blank.true in
     record {
       at = omega (arith, prefix_len-drop_no blank c.args.text.now c.loop-i.i 0 (omega arith) stop);
       within = omega arith;
@@ -14,7 +14,7 @@ returns-then-not-is_blank c =
 
 pub loop-i-preserved : goal.loop-i-preserved
 loop-i-preserved c =
-    let go = sym c.is-blank.ensures ∙ c.if-not-is_blank.false in
+    let go = sym c.is_blank.ensures ∙ c.if-not-is_blank.false in
     omega (arith, prefix_len-drop_yes blank c.args.text.now c.loop-i.i 0 (omega arith) go)
 
 pub returns : goal.returns
