@@ -1,6 +1,6 @@
 use Rattle.std.proofs.Common.{◌≡◌, ◌+◌, ◌-◌, ◌<◌, [], ◌++◌, length, Ok, sym, refl, ap, ◌∙◌, subst, arith}
 use Rattle.rows.specs.Arrangements.{semitones_of}
-use Rattle.rows.specs.Enumeration.{In, rows}
+use Rattle.rows.specs.Enumeration.{In}
 use Rattle.rows.specs.Growth.{Completed, footing_of}
 use Rattle.rows.proofs.Completing.{at_voice, below, below_more, below_none, below_within, completed_both, completed_past, grown_here, grown_top, in_below, voice_next, voice_none}
 use Rattle.rows.proofs.completion.+complete.Goals as goal
