@@ -13,7 +13,7 @@ use Rattle.harmony.specs.declared.range.Bounds.{Bounds}
 use Rattle.harmony.specs.declared.refusal.Refusal.{Refusal}
 use Rattle.rows.specs.Enumeration.{rows}
 use Rattle.rows.specs.Tables.{counted}
-use Rattle.std.specs.List.{AllByRecursion as All}
+use Rattle.std.specs.List.{AllByRecursion}
 
 pub record Case : Type 0 where
   pub ranges : List Bounds
@@ -52,4 +52,4 @@ worked =
     ∷ []
 
 abbrev pub Yielded : Type 0
-Yielded = All (λ c. yielded c ≡ c.yields) worked
+Yielded = AllByRecursion (λ c. yielded c ≡ c.yields) worked

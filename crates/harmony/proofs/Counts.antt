@@ -6,7 +6,7 @@ use Rattle.harmony.specs.Symbols.{classes_above}
 use Rattle.harmony.proofs.Tally.{get_or_tally, sum_tally, tally_push}
 use Rattle.std.proofs.lemmas.List.{length-map, length-take, length-take-le, map_more}
 use Rattle.std.proofs.lemmas.List.Sums.{count_by-le-length}
-use Rattle.std.specs.List.{AllByRecursion as All}
+use Rattle.std.specs.List.{AllByRecursion}
 
 module _ (root : ℕ) (tones : List ℕ) (i class : ℕ) (counts : List ℕ) (inside : class < 12) (so_far : counts ≡ tally (classes_above root (take i tones))) where
   -- no class is counted more often than there are tones
@@ -28,6 +28,6 @@ counts_all root tones n counts h e =
     ap sum e ∙ sum_tally (classes_above root (take n tones)) (round (take n tones))
     ∙ length-map (take n tones) (λ interval. around (root + interval)) ∙ length-take-le n tones h
   where
-    round : (xs : List ℕ) → All (λ c. c < 12) (classes_above root xs)
+    round : (xs : List ℕ) → AllByRecursion (λ c. c < 12) (classes_above root xs)
     round [] = tt
     round (x ∷ xs) = (omega arith, round xs)

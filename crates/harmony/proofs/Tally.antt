@@ -5,7 +5,7 @@ use Rattle.std.proofs.lemmas.List.FromFn.{fill_by_all, get_or-map-range_with_len
 use Rattle.std.proofs.lemmas.List.{get_or-set_other, get_or-set_same, length-set}
 use Rattle.std.proofs.lemmas.List.Sums.{sum_by-cons, sum_by_push, sum_by-set}
 use Rattle.std.proofs.lemmas.Bool.{cases_eq, eq-eqb, ne_eqb}
-use Rattle.std.specs.List.{AllByRecursion as All}
+use Rattle.std.specs.List.{AllByRecursion}
 
 pub length_tally : (cs : List ℕ) → length (tally cs) ≡ 12
 length_tally cs = refl
@@ -41,7 +41,7 @@ pub tally_push : (c : ℕ) (cs : List ℕ) → c < 12 → tally (cs ++ c ∷ [])
 tally_push c cs h = one_more c cs (cs ++ c ∷ []) h (λ k. sum_by_push (λ x. cond (eqb k x) 1 0) cs c)
 
 -- every class of a list is counted once
-pub sum_tally : (cs : List ℕ) → All (λ c. c < 12) cs → sum (tally cs) ≡ length cs
+pub sum_tally : (cs : List ℕ) → AllByRecursion (λ c. c < 12) cs → sum (tally cs) ≡ length cs
 sum_tally [] h = refl
 sum_tally (c ∷ cs) h =
     let old = tally cs in

@@ -17,7 +17,7 @@ use Rattle.std.proofs.ByRecursion.{All-from_get_or, All-set}
 use Rattle.std.proofs.lemmas.List.{get_or_past, set_past}
 use Rattle.std.proofs.lemmas.List.Sums.{get_or-le-sum_by, sum_by-cons, sum_by-set}
 use Rattle.std.proofs.lemmas.Bool.{cases_lt, eq-eqb, le-leb, leb-true, ne_eqb}
-use Rattle.std.specs.List.{AllByRecursion as All}
+use Rattle.std.specs.List.{AllByRecursion}
 
 -- that the counts are 24 holds in one way only
 pub same_costs : (b c : TableCost) → b.counts ≡ c.counts → b.moves ≡ c.moves → b ≡ c
@@ -38,10 +38,10 @@ sum_raised fs i = ⊎_elim (λ h. omega (arith, sum_by-set (λ f. f) fs i (min (
 raised_bump : (fs : Figures) (i : ℕ) → sum fs < most_moves → raised i fs ≡ bump i fs
 raised_bump fs i h = let k = count_in_sum fs i in ap (slice_set fs i) (omega arith)
 
-small_counts : (fs : Figures) → sum fs < most_moves → All IsFigure fs
+small_counts : (fs : Figures) → sum fs < most_moves → AllByRecursion IsFigure fs
 small_counts fs h = All-from_get_or IsFigure fs 0 (λ i k. omega (arith, count_in_sum fs i))
 
-small_bump : (fs : Figures) (i : ℕ) → sum fs < most_moves → All IsFigure (bump i fs)
+small_bump : (fs : Figures) (i : ℕ) → sum fs < most_moves → AllByRecursion IsFigure (bump i fs)
 small_bump fs i h = All-set IsFigure fs i (slice_index fs i + 1) (omega (arith, count_in_sum fs i)) (small_counts fs h)
 
 -- ---- costs that take a move
@@ -114,7 +114,7 @@ one_more : (n m d : ℕ) (ds : List Semitones) → n + cond (m == d) 1 0 + count
 one_more n m d ds = omega (arith, sum_by-cons (λ e. cond (m == e) 1 0) d ds)
 
 -- from any counts on
-counted : (f : ℕ → ℕ) (ds : List Semitones) → All IsMove ds → fold tabled.step (map f (down_from widest)) ds ≡ map (λ m. f m + count_by (nat_eq m) ds) (down_from widest)
+counted : (f : ℕ → ℕ) (ds : List Semitones) → AllByRecursion IsMove ds → fold tabled.step (map f (down_from widest)) ds ≡ map (λ m. f m + count_by (nat_eq m) ds) (down_from widest)
 counted f [] h = ap (λ g. map g (down_from widest)) (λ i m. sym (add-zero (f m)) i)
 counted f (d ∷ ds) h =
     ap (λ fs. fold tabled.step fs ds) (bump_one f widest d h.0)

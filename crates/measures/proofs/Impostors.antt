@@ -8,7 +8,7 @@ use Rattle.measures.specs.Impostors.{Gives, all_equal, largest_then_sum, voices_
 use Rattle.measures.specs.Laws.{Laws}
 use Rattle.measures.specs.Meanings.{Fits, Lawful, Meaning, figures_of, meaning}
 use Rattle.measures.specs.Readings.{Reading}
-use Rattle.std.specs.List.{AllByRecursion as All}
+use Rattle.std.specs.List.{AllByRecursion}
 
 module _ {C : Type 0} (r : Reading C) (laws : Laws r) where
   -- figures that the reading has are those of what it gives
@@ -71,7 +71,7 @@ same_figures ds es = at_most_same (figures_of all_equal ds) (figures_of all_equa
 pub all_equal_lawful : Lawful all_equal
 all_equal_lawful = record {
   steady = λ ds h. ap length (equal_figures ds);
-  small = λ ds h. subst (All IsFigure) (sym (equal_figures ds)) (lit< tt, tt);
+  small = λ ds h. subst (AllByRecursion IsFigure) (sym (equal_figures ds)) (lit< tt, tt);
   swap = λ ds d e h. equal_figures (ds ++ d ∷ e ∷ []) ∙ sym (equal_figures (ds ++ e ∷ d ∷ []));
   keep = λ ds es d h k is. same_figures (ds ++ d ∷ []) (es ++ d ∷ []);
   uncross = λ ds a a2 b b2 p q h. same_figures (ds ++ move a b ∷ move a2 b2 ∷ []) (ds ++ move a b2 ∷ move a2 b ∷ []);

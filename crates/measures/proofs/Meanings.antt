@@ -7,7 +7,7 @@ use Rattle.measures.specs.Laws.{Laws, StrictLaws}
 use Rattle.measures.specs.Meanings.{Fits, Lawful, StrictlyLawful, figures_of, meaning}
 use Rattle.measures.specs.Readings.{Reading, Takes, most_moves}
 use Rattle.std.proofs.lemmas.List.{length-append}
-use Rattle.std.specs.List.{AllByRecursion as All}
+use Rattle.std.specs.List.{AllByRecursion}
 
 -- ---- lists of moves
 
@@ -15,11 +15,11 @@ pub folded_append : {A B : Type 0} (f : B → A → B) (a : B) (xs ys : List A) 
 folded_append f a [] ys = refl
 folded_append f a (x ∷ xs) ys = folded_append f (f a x) xs ys
 
-pub all_front : {A : Type 0} (P : A → Type 0) (xs ys : List A) → All P (xs ++ ys) → All P xs
+pub all_front : {A : Type 0} (P : A → Type 0) (xs ys : List A) → AllByRecursion P (xs ++ ys) → AllByRecursion P xs
 all_front P [] ys h = tt
 all_front P (x ∷ xs) ys h = (h.0, all_front P xs ys h.1)
 
-pub all_back : {A : Type 0} (P : A → Type 0) (xs ys : List A) → All P (xs ++ ys) → All P ys
+pub all_back : {A : Type 0} (P : A → Type 0) (xs ys : List A) → AllByRecursion P (xs ++ ys) → AllByRecursion P ys
 all_back P [] ys h = h
 all_back P (x ∷ xs) ys h = all_back P xs ys h.1
 
@@ -32,14 +32,14 @@ fits_front ds es h =
 -- ---- the cost that a list of moves makes
 
 module _ {C : Type 0} (r : Reading C) (laws : Laws r) where
-  pub pushed_moves : (c : C) (ds : List Semitones) → r.moves c + length ds ≤ most_moves → All IsMove ds → r.moves (fold r.pushed c ds) ≡ r.moves c + length ds
+  pub pushed_moves : (c : C) (ds : List Semitones) → r.moves c + length ds ≤ most_moves → AllByRecursion IsMove ds → r.moves (fold r.pushed c ds) ≡ r.moves c + length ds
   pushed_moves c [] h a = omega arith
   pushed_moves c (d ∷ ds) h a =
       let one : r.moves (r.pushed c d) ≡ r.moves c + 1 = laws.longer c d (omega arith) a.0 in
       let rest : r.moves (fold r.pushed (r.pushed c d) ds) ≡ r.moves (r.pushed c d) + length ds = pushed_moves (r.pushed c d) ds (omega arith) a.1 in
       omega arith
 
-  pub pushed_figures : (c : C) (ds : List Semitones) → r.moves c + length ds ≤ most_moves → All IsMove ds → r.figures (fold r.pushed c ds) ≡ fold r.step (r.figures c) ds
+  pub pushed_figures : (c : C) (ds : List Semitones) → r.moves c + length ds ≤ most_moves → AllByRecursion IsMove ds → r.figures (fold r.pushed c ds) ≡ fold r.step (r.figures c) ds
   pushed_figures c [] h a = refl
   pushed_figures c (d ∷ ds) h a =
       let one : r.moves (r.pushed c d) ≡ r.moves c + 1 = laws.longer c d (omega arith) a.0 in
@@ -67,7 +67,7 @@ module _ {C : Type 0} (r : Reading C) (laws : Laws r) where
         let is : r.moves (fold r.pushed r.none ds) ≡ length ds = made_moves ds (fits_front ds es h) in
         omega arith
 
-    moved : All IsMove es
+    moved : AllByRecursion IsMove es
     moved = all_back IsMove ds es h.moves
 
     front : r.figures (fold r.pushed r.none ds) ≡ figures_of (meaning r) ds
@@ -80,15 +80,15 @@ module _ {C : Type 0} (r : Reading C) (laws : Laws r) where
   list_steady : (ds : List Semitones) → Fits ds → length (figures_of (meaning r) ds) ≡ r.width
   list_steady ds h = subst (λ fs. length fs ≡ r.width) (made_figures ds h) (laws.steady (fold r.pushed r.none ds))
 
-  pushed_small : (c : C) (ds : List Semitones) → r.moves c + length ds ≤ most_moves → All IsMove ds → All IsFigure (r.figures c) → All IsFigure (fold r.step (r.figures c) ds)
+  pushed_small : (c : C) (ds : List Semitones) → r.moves c + length ds ≤ most_moves → AllByRecursion IsMove ds → AllByRecursion IsFigure (r.figures c) → AllByRecursion IsFigure (fold r.step (r.figures c) ds)
   pushed_small c [] h a k = k
   pushed_small c (d ∷ ds) h a k =
       let one : r.moves (r.pushed c d) ≡ r.moves c + 1 = laws.longer c d (omega arith) a.0 in
       let is : r.figures (r.pushed c d) ≡ r.step (r.figures c) d = laws.stepped c d (omega arith) a.0 in
-      let next : All IsFigure (r.step (r.figures c) d) = laws.small.1 c d (omega arith) a.0 in
-      subst (λ fs. All IsFigure (fold r.step fs ds)) is (pushed_small (r.pushed c d) ds (omega arith) a.1 (subst (All IsFigure) (sym is) next))
+      let next : AllByRecursion IsFigure (r.step (r.figures c) d) = laws.small.1 c d (omega arith) a.0 in
+      subst (λ fs. AllByRecursion IsFigure (fold r.step fs ds)) is (pushed_small (r.pushed c d) ds (omega arith) a.1 (subst (AllByRecursion IsFigure) (sym is) next))
 
-  list_small : (ds : List Semitones) → Fits ds → All IsFigure (figures_of (meaning r) ds)
+  list_small : (ds : List Semitones) → Fits ds → AllByRecursion IsFigure (figures_of (meaning r) ds)
   list_small ds h =
       let few : length ds ≤ most_moves = h.few in
       let none : r.moves r.none ≡ 0 = laws.empty in

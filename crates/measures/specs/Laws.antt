@@ -17,7 +17,7 @@ use Rattle.harmony.specs.Moves.{IsMove, Semitones, move}
 use Rattle.harmony.specs.Pitches.{IsPitch}
 use Rattle.measures.specs.Figures.{AtMost, Below, IsFigure}
 use Rattle.measures.specs.Readings.{Reading, Takes, most_moves}
-use Rattle.std.specs.List.{AllByRecursion as All}
+use Rattle.std.specs.List.{AllByRecursion}
 
 pub record Laws {C : Type 0} (r : Reading C) : Type 0 where
   pub steady : (c : C) → length (r.figures c) ≡ r.width
@@ -25,7 +25,7 @@ pub record Laws {C : Type 0} (r : Reading C) : Type 0 where
   pub empty : r.moves r.none ≡ 0
   pub longer : (c : C) (d : Semitones) → Takes r 1 c → IsMove d → r.moves (r.pushed c d) ≡ r.moves c + 1
   pub stepped : (c : C) (d : Semitones) → Takes r 1 c → IsMove d → r.figures (r.pushed c d) ≡ r.step (r.figures c) d
-  pub small : All IsFigure (r.figures r.none) × ((c : C) (d : Semitones) → Takes r 1 c → IsMove d → All IsFigure (r.step (r.figures c) d))
+  pub small : AllByRecursion IsFigure (r.figures r.none) × ((c : C) (d : Semitones) → Takes r 1 c → IsMove d → AllByRecursion IsFigure (r.step (r.figures c) d))
   pub swap : (c : C) (d e : Semitones) → Takes r 2 c → IsMove d → IsMove e → r.step (r.step (r.figures c) d) e ≡ r.step (r.step (r.figures c) e) d
   pub keep : (b c : C) (d : Semitones) → Takes r 1 b → Takes r 1 c → IsMove d → AtMost (r.figures b) (r.figures c) → AtMost (r.step (r.figures b) d) (r.step (r.figures c) d)
   pub uncross : (c : C) (a a2 b b2 : ℕ) → IsPitch a2 → IsPitch b2 → a ≤ a2 → b ≤ b2 → Takes r 2 c → IsMove (move a b2) → IsMove (move a2 b) → AtMost (r.step (r.step (r.figures c) (move a b)) (move a2 b2)) (r.step (r.step (r.figures c) (move a b2)) (move a2 b))

@@ -16,7 +16,7 @@ use Rattle.std.specs.Prelude.{◌≡◌, ℕ, ◌≤◌, List, [], ◌∷◌, �
 use Rattle.harmony.specs.Moves.{IsMove, Semitones, move}
 use Rattle.measures.specs.Figures.{AtMost, Below, Figures, IsFigure}
 use Rattle.measures.specs.Readings.{Reading, most_moves}
-use Rattle.std.specs.List.{AllByRecursion as All}
+use Rattle.std.specs.List.{AllByRecursion}
 
 pub record Meaning : Type 0 where
   pub width : ℕ
@@ -30,12 +30,12 @@ abbrev pub figures_of : Meaning → List Semitones → Figures
 figures_of m ds = fold m.step m.start ds
 
 pub record Fits (ds : List Semitones) : Type 0 where
-  pub moves : All IsMove ds
+  pub moves : AllByRecursion IsMove ds
   pub few : length ds ≤ most_moves
 
 pub record Lawful (m : Meaning) : Type 0 where
   pub steady : (ds : List Semitones) → Fits ds → length (figures_of m ds) ≡ m.width
-  pub small : (ds : List Semitones) → Fits ds → All IsFigure (figures_of m ds)
+  pub small : (ds : List Semitones) → Fits ds → AllByRecursion IsFigure (figures_of m ds)
   pub swap : (ds : List Semitones) (d e : Semitones) → Fits (ds ++ d ∷ e ∷ []) → figures_of m (ds ++ d ∷ e ∷ []) ≡ figures_of m (ds ++ e ∷ d ∷ [])
   pub keep : (ds es : List Semitones) (d : Semitones) → Fits (ds ++ d ∷ []) → Fits (es ++ d ∷ []) → AtMost (figures_of m ds) (figures_of m es) → AtMost (figures_of m (ds ++ d ∷ [])) (figures_of m (es ++ d ∷ []))
   pub uncross : (ds : List Semitones) (a a2 b b2 : ℕ) → a ≤ a2 → b ≤ b2 → Fits (ds ++ move a b2 ∷ move a2 b ∷ []) → AtMost (figures_of m (ds ++ move a b ∷ move a2 b2 ∷ [])) (figures_of m (ds ++ move a b2 ∷ move a2 b ∷ []))

@@ -1,5 +1,5 @@
 -- The pair of two measures is a measure, and a strict one where both are.
-use Rattle.std.specs.Prelude.{◌≡◌, ℕ, suc, ◌+◌, ◌-◌, ◌≤◌, max, true, false, List, [], ◌∷◌, ◌++◌, length, fold, ◌≢◌}
+use Rattle.std.specs.Prelude.{◌≡◌, ℕ, suc, ◌+◌, ◌≤◌, max, true, false, List, [], ◌∷◌, ◌++◌, length, fold, ◌≢◌}
 use Rattle.std.specs.declared.cmp.Ordering.TheVariants.{Less, Equal, Greater}
 use Rattle.std.specs.declared.cmp.Ordering.{Ordering}
 use Rattle.std.proofs.Math.Bool.{true≢false}
@@ -17,7 +17,7 @@ use Rattle.measures.specs.declared.pair.PairCost.{PairCost}
 use Rattle.std.proofs.ByRecursion.{All-append}
 use Rattle.std.proofs.lemmas.List.{drop_at, length-append, take_at}
 use Rattle.std.specs.Ordering.{is_gt, is_lt, ordering_then}
-use Rattle.std.specs.List.{AllByRecursion as All}
+use Rattle.std.specs.List.{AllByRecursion}
 
 -- ---- two halves compared in turn
 
@@ -72,7 +72,7 @@ module _ {A B : Type 0} (r : Reading A) (s : Reading B) (first : StrictLaws r) w
   step_halves : (fs gs : Figures) (d : Semitones) → length fs ≡ r.width → (both r s).step (fs ++ gs) d ≡ r.step fs d ++ s.step gs d
   step_halves fs gs d wide = rw (take_at fs gs r.width wide, drop_at fs gs r.width wide)
 
-  in_turn_from : (b : A) (gs : Figures) (ds : List Semitones) → All IsMove ds → Takes r (length ds) b → fold (both r s).step (r.figures b ++ gs) ds ≡ fold r.step (r.figures b) ds ++ fold s.step gs ds
+  in_turn_from : (b : A) (gs : Figures) (ds : List Semitones) → AllByRecursion IsMove ds → Takes r (length ds) b → fold (both r s).step (r.figures b ++ gs) ds ≡ fold r.step (r.figures b) ds ++ fold s.step gs ds
   in_turn_from b gs [] moves room = refl
   in_turn_from b gs (d ∷ ds) moves room =
       let stepped = first.weak.stepped b d (omega arith) moves.0 in
@@ -122,8 +122,8 @@ module _ {A B : Type 0} (r : Reading A) (s : Reading B) (first : StrictLaws r) w
     stepped : (c : PairCost A B) (d : Semitones) → Takes (both r s) 1 c → IsMove d → (both r s).figures ((both r s).pushed c d) ≡ (both r s).step ((both r s).figures c) d
     stepped c d room moves = (λ i. first.weak.stepped c.first d (room_first 1 c room) moves i ++ second.stepped c.second d (room_second 1 c room) moves i) ∙ sym (step_of c d)
 
-    small : (c : PairCost A B) (d : Semitones) → Takes (both r s) 1 c → IsMove d → All IsFigure ((both r s).step ((both r s).figures c) d)
-    small c d room moves = subst (All IsFigure) (sym (step_of c d)) (All-append IsFigure (r.step (r.figures c.first) d) (s.step (s.figures c.second) d) (first.weak.small.1 c.first d (room_first 1 c room) moves) (second.small.1 c.second d (room_second 1 c room) moves))
+    small : (c : PairCost A B) (d : Semitones) → Takes (both r s) 1 c → IsMove d → AllByRecursion IsFigure ((both r s).step ((both r s).figures c) d)
+    small c d room moves = subst (AllByRecursion IsFigure) (sym (step_of c d)) (All-append IsFigure (r.step (r.figures c.first) d) (s.step (s.figures c.second) d) (first.weak.small.1 c.first d (room_first 1 c room) moves) (second.small.1 c.second d (room_second 1 c room) moves))
 
     swap : (c : PairCost A B) (d e : Semitones) → Takes (both r s) 2 c → IsMove d → IsMove e → (both r s).step ((both r s).step ((both r s).figures c) d) e ≡ (both r s).step ((both r s).step ((both r s).figures c) e) d
     swap c d e room moves more = steps_of c d e room moves ∙ (λ i. first.weak.swap c.first d e (room_first 2 c room) moves more i ++ second.swap c.second d e (room_second 2 c room) moves more i) ∙ sym (steps_of c e d room more)

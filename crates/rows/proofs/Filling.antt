@@ -11,7 +11,7 @@ use Rattle.rows.specs.Tables.{all_few, all_some, count_unless, counted, flat, to
 use Rattle.rows.proofs.Meaning.{meant}
 use Rattle.std.proofs.lemmas.List.{drop_at, drop-drop, length-append, length-drop, take_at}
 use Rattle.std.proofs.lemmas.Bool.{and_parts, cond-true, false≢true, le-leb, leb-true}
-use Rattle.std.specs.List.{AllByRecursion as All}
+use Rattle.std.specs.List.{AllByRecursion}
 
 -- every row is as long as the ranges are many
 inside_length : (vs : List Bounds) (ps : List ℕ) → inside vs ps ≡ true → length ps ≡ length vs
@@ -20,11 +20,11 @@ inside_length [] (p ∷ ps) h = absurd (false≢true h)
 inside_length (v ∷ vs) [] h = absurd (false≢true h)
 inside_length (v ∷ vs) (p ∷ ps) h = ap suc (inside_length vs ps (and_parts (within v p) (inside vs ps) h).1)
 
-all_from_in : {X : Type 0} (P : X → Type 0) (xs : List X) → ((x : X) → In x xs → P x) → All P xs
+all_from_in : {X : Type 0} (P : X → Type 0) (xs : List X) → ((x : X) → In x xs → P x) → AllByRecursion P xs
 all_from_in P [] h = tt
 all_from_in P (x ∷ xs) h = (h x (inl refl), all_from_in P xs (λ y g. h y (inr g)))
 
-pub rows_length : (vs : List Bounds) (c : Harmony) → length c.counts ≡ 12 → All (λ r. length r ≡ length vs) (rows vs c)
+pub rows_length : (vs : List Bounds) (c : Harmony) → length c.counts ≡ 12 → AllByRecursion (λ r. length r ≡ length vs) (rows vs c)
 rows_length vs c full = all_from_in (λ r. length r ≡ length vs) (rows vs c) (λ r h. inside_length vs r ((meant vs c full).rows_only r h).arranged.ranges)
 
 module _ (n : ℕ) where
@@ -36,7 +36,7 @@ module _ (n : ℕ) where
       ∙ ap (λ t. front ++ (r ++ t)) (sym (drop-drop n (k * n) (front ++ rest)) ∙ ap (drop n) (drop_at front rest (k * n) long))
       ∙ sym (append_assoc front r (drop n rest))
 
-  laid_behind : (k : ℕ) (front rest : List ℕ) (rs : List (List ℕ)) → length front ≡ k * n → All (λ r. length r ≡ n) rs → length rs * n ≤ length rest → laid n (front ++ rest) k rs ≡ front ++ (flat rs ++ drop (length rs * n) rest)
+  laid_behind : (k : ℕ) (front rest : List ℕ) (rs : List (List ℕ)) → length front ≡ k * n → AllByRecursion (λ r. length r ≡ n) rs → length rs * n ≤ length rest → laid n (front ++ rest) k rs ≡ front ++ (flat rs ++ drop (length rs * n) rest)
   laid_behind k front rest [] long h room = ap (λ m. front ++ drop m rest) (sym (zero-mul n))
   laid_behind k front rest (r ∷ rs) long h room =
       let more : suc (length rs) * n ≡ length rs * n + n = suc-mul (length rs) n in
@@ -48,7 +48,7 @@ module _ (n : ℕ) where
       ∙ append_assoc front r (flat rs ++ drop (suc (length rs) * n) rest)
       ∙ ap (λ t. front ++ t) (sym (append_assoc r (flat rs) (drop (suc (length rs) * n) rest)))
 
-  pub laid_all : (table : List ℕ) (rs : List (List ℕ)) → All (λ r. length r ≡ n) rs → length rs * n ≤ length table → laid n table 0 rs ≡ flat rs ++ drop (length rs * n) table
+  pub laid_all : (table : List ℕ) (rs : List (List ℕ)) → AllByRecursion (λ r. length r ≡ n) rs → length rs * n ≤ length table → laid n table 0 rs ≡ flat rs ++ drop (length rs * n) table
   laid_all table rs h room = laid_behind 0 [] table rs (sym (zero-mul n)) h room
 
 -- what an accepted count says
@@ -61,7 +61,7 @@ counted_parts rss k e = parts (all_some rss) (all_few rss) e
     parts false b e = let z : ◌≡◌ {A = ℕ} 0 1 = cc in absurd (omega arith)
 
 -- a search that finds the rows of one chord, which were counted, has written them
-pub found_written : (n : ℕ) (rs : List (List ℕ)) (part after : List ℕ) (k : ℕ) (r : Result ℕ Refusal) → All (λ row. length row ≡ n) rs → counted (rs ∷ []) ≡ Ok k → k * n ≤ length part → Completed n 0 rs part after r → after ≡ flat rs ++ drop (k * n) part
+pub found_written : (n : ℕ) (rs : List (List ℕ)) (part after : List ℕ) (k : ℕ) (r : Result ℕ Refusal) → AllByRecursion (λ row. length row ≡ n) rs → counted (rs ∷ []) ≡ Ok k → k * n ≤ length part → Completed n 0 rs part after r → after ≡ flat rs ++ drop (k * n) part
 found_written n rs part after k (Err e) widths was room done =
     absurd (omega (arith, done.1, leb-true (length rs) 256 (and_parts (leb (length rs) 256) true (counted_parts (rs ∷ []) k was).1).0))
 found_written n rs part after k (Ok j) widths was room done =

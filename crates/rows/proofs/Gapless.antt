@@ -14,10 +14,10 @@ use Rattle.rows.proofs.Filling.{rows_length}
 use Rattle.std.proofs.ByRecursion.{All-append}
 use Rattle.std.proofs.lemmas.List.{drop-append-le, drop_at, drop-drop, length-append, length-drop, length-map, length-take-le, take-append-drop, take_at}
 use Rattle.std.proofs.lemmas.Bool.{cond-true, le-leb}
-use Rattle.std.specs.List.{AllByRecursion as All}
+use Rattle.std.specs.List.{AllByRecursion}
 
 -- rows of one width, laid flat
-flat_length : (n : ℕ) (rs : List (List ℕ)) → All (λ r. length r ≡ n) rs → length (flat rs) ≡ length rs * n
+flat_length : (n : ℕ) (rs : List (List ℕ)) → AllByRecursion (λ r. length r ≡ n) rs → length (flat rs) ≡ length rs * n
 flat_length n [] h = sym (zero-mul n)
 flat_length n (r ∷ rs) h = omega (arith, length-append r (flat rs), flat_length n rs h.1, h.0, suc-mul (length rs) n)
 
@@ -25,13 +25,13 @@ flat_append : (rs ss : List (List ℕ)) → flat (rs ++ ss) ≡ flat rs ++ flat 
 flat_append [] ss = refl
 flat_append (r ∷ rs) ss = ap (λ t. r ++ t) (flat_append rs ss) ∙ sym (append_assoc r (flat rs) (flat ss))
 
-pub wide : (voices : Voices) (c : Chord) → All (λ r. length r ≡ voices.count.number) (rows_for voices c)
+pub wide : (voices : Voices) (c : Chord) → AllByRecursion (λ r. length r ≡ voices.count.number) (rows_for voices c)
 wide voices c =
     let n = voices.count.number in
     let long : length (ranges_of voices) ≡ n = length-map (take n voices.ranges) bounds ∙ length-take-le n voices.ranges (omega (arith, voices.full, voices.count.most)) in
-    subst (λ m. All (λ r. length r ≡ m) (rows_for voices c)) long (rows_length (ranges_of voices) (harmony c) c.full)
+    subst (λ m. AllByRecursion (λ r. length r ≡ m) (rows_for voices c)) long (rows_length (ranges_of voices) (harmony c) c.full)
 
-all_wide : (voices : Voices) (chords : List Chord) → All (λ r. length r ≡ voices.count.number) (together (rows_of_each voices chords))
+all_wide : (voices : Voices) (chords : List Chord) → AllByRecursion (λ r. length r ≡ voices.count.number) (together (rows_of_each voices chords))
 all_wide voices [] = tt
 all_wide voices (c ∷ cs) = All-append (λ r. length r ≡ voices.count.number) (rows_for voices c) (together (rows_of_each voices cs)) (wide voices c) (all_wide voices cs)
 

@@ -10,7 +10,7 @@ use Rattle.rows.proofs.Order.{in_order}
 use Rattle.rows.proofs.Members.{from_counting, from_joined, from_map, in_counting, in_joined, in_map}
 use Rattle.std.proofs.ByRecursion.{All-weaker}
 use Rattle.std.proofs.lemmas.Bool.{and_from, and_parts, both_ways, cases_Bool, cond-true, cond-false, eq-eqb, eqb-true, le-leb, leb-true}
-use Rattle.std.specs.List.{AllByRecursion as All}
+use Rattle.std.specs.List.{AllByRecursion}
 
 -- each pitch stands on the one below, and the first on the footing
 abbrev pub Climbs : Footing → List ℕ → Type 0
@@ -82,7 +82,7 @@ lists (v ∷ vs) footing left full (p ∷ ps) h =
     (subst (In (p ∷ ps)) (sym (cond-true (may footing left p) _ _ can)) (in_map (λ qs. p ∷ qs) ps _ rest))
 
 -- a pitch that each pitch climbs from is the lowest of all
-above_all : (p : ℕ) (ps : List ℕ) → Climbs (above p) ps → All (λ q. p ≤ q) ps
+above_all : (p : ℕ) (ps : List ℕ) → Climbs (above p) ps → AllByRecursion (λ q. p ≤ q) ps
 above_all p [] h = tt
 above_all p (q ∷ ps) h = let le = leb-true p q h.0 in (le, All-weaker (λ r. q ≤ r) (λ r. p ≤ r) (λ r g. omega arith) ps (above_all q ps h.1))
 
@@ -95,9 +95,9 @@ ascends_climbs p [] h = tt
 ascends_climbs p (q ∷ ps) h = let parts = and_parts (leb p q) (ascends (q ∷ ps)) h in (parts.0, ascends_climbs q ps parts.1)
 
 -- where the first of ascending pitches has the bass class, the lowest one has
-bass_lowest : (b p : ℕ) (ps : List ℕ) → class p ≡ b → Climbs (above p) ps → All (λ q. All (λ r. q ≤ r) (p ∷ ps) → class q ≡ b) (p ∷ ps)
+bass_lowest : (b p : ℕ) (ps : List ℕ) → class p ≡ b → Climbs (above p) ps → AllByRecursion (λ q. AllByRecursion (λ r. q ≤ r) (p ∷ ps) → class q ≡ b) (p ∷ ps)
 bass_lowest b p ps e h =
-    (λ g. e, All-weaker (λ q. p ≤ q) (λ q. All (λ r. q ≤ r) (p ∷ ps) → class q ≡ b) (λ q le g. let same : q ≡ p = omega (arith, g.0) in ap class same ∙ e) ps (above_all p ps h))
+    (λ g. e, All-weaker (λ q. p ≤ q) (λ q. AllByRecursion (λ r. q ≤ r) (p ∷ ps) → class q ≡ b) (λ q le g. let same : q ≡ p = omega (arith, g.0) in ap class same ∙ e) ps (above_all p ps h))
 
 -- what may be added from the bass class up is a row, and the other way round
 added_row : (vs : List Bounds) (c : Harmony) (ps : List ℕ) → Added vs (bass c.bass) c.counts ps → IsRow vs c ps

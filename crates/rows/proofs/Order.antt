@@ -6,7 +6,7 @@ use Rattle.rows.specs.Arrangements.{Earlier}
 use Rattle.rows.specs.Enumeration.{Footing, InOrder, above, all_zero, less, may, rows_on}
 use Rattle.std.proofs.ByRecursion.{All-append, All-map, All-weaker}
 use Rattle.std.proofs.lemmas.Bool.{cond_both}
-use Rattle.std.specs.List.{range_with_len, flat_map, AllByRecursion as All}
+use Rattle.std.specs.List.{range_with_len, flat_map, AllByRecursion}
 
 -- what begins with p, and with p or a higher pitch
 abbrev From : ℕ → List ℕ → Type 0
@@ -22,7 +22,7 @@ at_before p [] s h k = absurd h
 at_before p (q ∷ qs) [] h k = absurd k
 at_before p (q ∷ qs) (t ∷ ts) h k = inl (omega arith)
 
-order_append : (p : ℕ) (xs ys : List (List ℕ)) → All (At p) xs → All (From (p + 1)) ys → InOrder xs → InOrder ys → InOrder (xs ++ ys)
+order_append : (p : ℕ) (xs ys : List (List ℕ)) → AllByRecursion (At p) xs → AllByRecursion (From (p + 1)) ys → InOrder xs → InOrder ys → InOrder (xs ++ ys)
 order_append p [] ys h k o u = u
 order_append p (x ∷ xs) ys h k o u =
     (All-append (Earlier x) xs ys o.0 (All-weaker (From (p + 1)) (Earlier x) (λ y g. at_before p x y h.0 g) ys k), order_append p xs ys h.1 k o.1 u)
@@ -32,19 +32,19 @@ order_map p [] o = tt
 order_map p (x ∷ xs) o =
     (All-map (Earlier (p ∷ x)) (λ ps. p ∷ ps) xs (All-weaker (Earlier x) (λ y. Earlier (p ∷ x) (p ∷ y)) (λ y g. inr (refl, g)) xs o.0), order_map p xs o.1)
 
-at_map : (p : ℕ) (xs : List (List ℕ)) → All (At p) (map (λ ps. p ∷ ps) xs)
+at_map : (p : ℕ) (xs : List (List ℕ)) → AllByRecursion (At p) (map (λ ps. p ∷ ps) xs)
 at_map p [] = tt
 at_map p (x ∷ xs) = (refl, at_map p xs)
 
-at_from : (p a : ℕ) (xs : List (List ℕ)) → a ≤ p → All (At p) xs → All (From a) xs
+at_from : (p a : ℕ) (xs : List (List ℕ)) → a ≤ p → AllByRecursion (At p) xs → AllByRecursion (From a) xs
 at_from p a xs h = All-weaker (At p) (From a) (λ x g. one x g) xs
   where
     one : (x : List ℕ) → At p x → From a x
     one [] g = absurd g
     one (q ∷ qs) g = omega arith
 
-module _ (f : ℕ → List (List ℕ)) (begins : (p : ℕ) → All (At p) (f p)) where
-  from_joined : (a n : ℕ) → All (From a) (flat_map f (range_with_len a n))
+module _ (f : ℕ → List (List ℕ)) (begins : (p : ℕ) → AllByRecursion (At p) (f p)) where
+  from_joined : (a n : ℕ) → AllByRecursion (From a) (flat_map f (range_with_len a n))
   from_joined a zero = tt
   from_joined a (suc n) =
       All-append (From a) (f a) (flat_map f (range_with_len (a + 1) n)) (at_from a a (f a) (omega arith) (begins a))
@@ -64,6 +64,6 @@ unfolding rows_on
 in_order [] footing left = cond_both (all_zero left) ([] ∷ []) [] InOrder (λ e. (tt, tt)) (λ e. tt)
 in_order (v ∷ vs) footing left =
     order_joined _
-    (λ p. cond_both (may footing left p) _ [] (All (At p)) (λ e. at_map p (rows_on vs (above p) (less left (class p)))) (λ e. tt))
+    (λ p. cond_both (may footing left p) _ [] (AllByRecursion (At p)) (λ e. at_map p (rows_on vs (above p) (less left (class p)))) (λ e. tt))
     (λ p. cond_both (may footing left p) _ [] InOrder (λ e. order_map p _ (in_order vs (above p) (less left (class p)))) (λ e. tt))
     v.low (suc v.high - v.low)

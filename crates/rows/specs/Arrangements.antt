@@ -12,7 +12,7 @@ use Rattle.harmony.specs.Neighbours.{neighbours}
 use Rattle.harmony.specs.Pitches.{class}
 use Rattle.harmony.specs.declared.pitch.Pitch.{Pitch}
 use Rattle.harmony.specs.declared.range.Bounds.{Bounds}
-use Rattle.std.specs.List.{AllByRecursion as All}
+use Rattle.std.specs.List.{AllByRecursion}
 
 abbrev pub within : Bounds → ℕ → Bool
 within v p = nat_le v.low p && nat_le p v.high
@@ -27,7 +27,7 @@ inside (v ∷ vs) (p ∷ ps) = within v p && inside vs ps
 pub record Arranged (vs : List Bounds) (c : Harmony) (ps : List ℕ) : Type 0 where
   pub ranges : inside vs ps ≡ true
   pub classes : tally (map class ps) ≡ c.counts
-  pub lowest : All (λ p. All (λ q. p ≤ q) ps → class p ≡ c.bass) ps
+  pub lowest : AllByRecursion (λ p. AllByRecursion (λ q. p ≤ q) ps → class p ≡ c.bass) ps
 
 -- no pitch is lower than that of the voice below
 abbrev pub ascends : List ℕ → Bool

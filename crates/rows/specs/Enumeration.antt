@@ -11,7 +11,7 @@ use Rattle.harmony.specs.Chords.{Harmony}
 use Rattle.harmony.specs.Pitches.{class}
 use Rattle.harmony.specs.declared.range.Bounds.{Bounds}
 use Rattle.rows.specs.Arrangements.{Earlier, IsRow}
-use Rattle.std.specs.List.{range_with_len, flat_map, list_all, AllByRecursion as All}
+use Rattle.std.specs.List.{range_with_len, flat_map, list_all, AllByRecursion}
 
 pub data Footing : Type 0 where
   bass : ℕ → Footing
@@ -49,7 +49,7 @@ In x (y ∷ ys) = (y ≡ x) ⊎ In x ys
 -- each comes before all that follow
 abbrev pub InOrder : List (List ℕ) → Type 0
 InOrder [] = Unit {0}
-InOrder (r ∷ rs) = All (Earlier r) rs × InOrder rs
+InOrder (r ∷ rs) = AllByRecursion (Earlier r) rs × InOrder rs
 
 pub record Meant (vs : List Bounds) (c : Harmony) : Type 0 where
   pub rows_only : (ps : List ℕ) → In ps (rows vs c) → IsRow vs c ps

@@ -4,7 +4,7 @@ use Rattle.harmony.specs.declared.range.Bounds.{Bounds}
 use Rattle.std.proofs.ByRecursion.{All-push}
 use Rattle.std.proofs.lemmas.List.{append_assoc, append-nil, length_push, map_push}
 use Rattle.std.proofs.lemmas.Bool.{and_parts, cases_Bool, eqb-true, leb-true}
-use Rattle.std.specs.List.{flat_map, AllByRecursion as All}
+use Rattle.std.specs.List.{flat_map, AllByRecursion}
 use Rattle.text.proofs.Words.{word_before}
 use Rattle.text.specs.Numbers.{digit, number}
 use Rattle.text.specs.RangeLines.{Line, Place, added, behind, between, closing, from_word, hyphen, in_high, in_low, parted, range_line, scan, stepped}
@@ -13,7 +13,7 @@ use Rattle.text.specs.Written.{Digits, Written, WrittenLine, bounds_of, figures,
 -- at most three digits, perhaps none yet
 record Few (ds : List ℕ) : Type 0 where
   pub few : length ds ≤ 3
-  pub decimal : All (λ d. d < 10) ds
+  pub decimal : AllByRecursion (λ d. d < 10) ds
 
 -- the bytes read of the range under way
 abbrev Front : Place → List ℕ → Type 0

@@ -3,7 +3,7 @@ use Rattle.std.proofs.Common.{◌≡◌, ℕ, ◌+◌, ◌-◌, ◌<◌, ◌≤�
 use Rattle.harmony.specs.declared.range.Bounds.{Bounds}
 use Rattle.std.proofs.lemmas.List.{append_assoc, append-nil, length_push}
 use Rattle.std.proofs.lemmas.Bool.{and_from, le-leb}
-use Rattle.std.specs.List.{flat_map, AllByRecursion as All}
+use Rattle.std.specs.List.{flat_map, AllByRecursion}
 use Rattle.text.specs.Numbers.{digit, pushed}
 use Rattle.text.specs.RangeLines.{Line, Place, added, behind, between, in_high, in_low, onward, parted, range_line, scan, step}
 use Rattle.text.proofs.Words.{behind_word}
@@ -18,7 +18,7 @@ pushed_digit ds d h k =
 
 -- digits are read on, at a place that holds them
 module _ (in_number : List ℕ → Place) (reads : (ds more : List ℕ) (b : ℕ) → pushed ds b ≡ Some more → step (in_number ds) b ≡ onward (in_number more)) where
-  scan_digits : (ds es bs : List ℕ) (rs : List Bounds) → All (λ d. d < 10) es → length ds + length es ≤ 3 → scan (figures es ++ bs) rs (in_number ds) ≡ scan bs rs (in_number (ds ++ es))
+  scan_digits : (ds es bs : List ℕ) (rs : List Bounds) → AllByRecursion (λ d. d < 10) es → length ds + length es ≤ 3 → scan (figures es ++ bs) rs (in_number ds) ≡ scan bs rs (in_number (ds ++ es))
   scan_digits ds [] bs rs a h = rw (append-nil ds)
   scan_digits ds (e ∷ es) bs rs a h =
       let here = reads ds (ds ++ e ∷ []) (48 + e) (pushed_digit ds e a.0 (omega arith)) in

@@ -9,14 +9,14 @@
 -- LineForm      a line is read from the chart exactly where the chart begins with it in writing
 use Rattle.std.specs.Prelude.{◌≡◌, ℕ, ◌+◌, ◌<◌, ◌≤◌, List, [], ◌∷◌, ◌++◌, map, length, Some, codes}
 use Rattle.harmony.specs.declared.range.Bounds.{Bounds}
-use Rattle.std.specs.List.{flat_map, AllByRecursion as All}
+use Rattle.std.specs.List.{flat_map, AllByRecursion}
 use Rattle.text.specs.Numbers.{extended}
 use Rattle.text.specs.RangeLines.{Line, range_line}
 
 pub record Digits (ds : List ℕ) : Type 0 where
   pub some : 1 ≤ length ds
   pub few : length ds ≤ 3
-  pub decimal : All (λ d. d < 10) ds
+  pub decimal : AllByRecursion (λ d. d < 10) ds
 
 pub record Written : Type 0 where
   pub low : List ℕ
