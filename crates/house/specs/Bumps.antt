@@ -6,7 +6,7 @@ use Rattle.std.proofs.Common.{◌∙◌, ap, sym, arith}
 use Rattle.measures.specs.Orders.{at_most_same, rank_less, rank_same}
 use Rattle.measures.specs.Figures.{AtMost, Below, Figures, order}
 use Rattle.house.specs.Tables.{bump}
-use Rattle.std.specs.Cmp.{ranks, nat_cmp_total}
+use Rattle.std.specs.Cmp.{nat_cmp_is, ranks}
 use Rattle.std.specs.Ordering.{MatchOrdering, is_gt, is_lt, ordering_then, nat_cmp}
 
 pub bump_bump : (i j : ℕ) (fs : Figures) → bump i (bump j fs) ≡ bump j (bump i fs)
@@ -24,7 +24,7 @@ ranked_more f g Equal h = omega arith
 ranked_more f g Greater h = omega arith
 
 rank_more : (f g : ℕ) → nat_cmp (f + 1) (g + 1) ≡ nat_cmp f g
-rank_more f g = sym (nat_cmp_total.says (f + 1) (g + 1) (nat_cmp f g) (ranked_more f g (nat_cmp f g) (ranks f g)))
+rank_more f g = sym (nat_cmp_is (f + 1) (g + 1) (nat_cmp f g) (ranked_more f g (nat_cmp f g) (ranks f g)))
 
 order_bump : (i : ℕ) (fs gs : Figures) → order (bump i fs) (bump i gs) ≡ order fs gs
 order_bump i [] [] = refl

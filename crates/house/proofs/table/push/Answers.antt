@@ -10,6 +10,6 @@ returns c =
     let counts = c.args.cost.now.counts in
     let at = c.place-at.result in
     same_costs _ _
-    (elim c.if-at-lt-WIDTH.branch [ then-at-lt-WIDTH w ↦ ap (λ p. p.1.0) w.cost-is ∙ ap (set counts at) w.saturating-add.ensures | else-at-lt-WIDTH w ↦ ap (λ p. p.1.0) w.cost-is ∙ sym (set_past counts at _ (omega (arith, c.args.cost.now.whole))) ]
+    (elim c.if-at-lt-WIDTH.branch [ then-at-lt-WIDTH w ↦ ap (λ p. p.1.0) w.cost-is ∙ ap (set counts at) w.saturating_add.ensures | else-at-lt-WIDTH w ↦ ap (λ p. p.1.0) w.cost-is ∙ sym (set_past counts at _ (omega (arith, c.args.cost.now.whole))) ]
     ∙ ap (λ i. raised i counts) c.place-at.ensures)
-    c.saturating-add-cost.ensures
+    c.saturating_add-cost.ensures
