@@ -1,4 +1,4 @@
-use Rattle.std.proofs.Common.{◌+◌, ◌∷◌, ◌++◌, get_or, take, string_bytes, decimal, sym, ap, ◌∙◌}
+use Rattle.std.proofs.Common.{◌∷◌, ◌++◌, get_or, take, string_bytes, decimal, sym, ap, ◌∙◌}
 use Rattle.costlist.proofs.cost_line.add_figures.Goals as goal
 use Rattle.costlist.specs.CostLines.{spaced}
 use Rattle.std.proofs.lemmas.List.{flat_map_more, take_all, take_more}
