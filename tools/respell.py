@@ -3,9 +3,10 @@
 
 usage: python3 tools/respell.py      at the top of the repository, once, straight after the kit's port.py
 
-A name is turned where a file of specs/ or proofs/ declares it with a dash: `rows-for` becomes `rows_for`. Names that Rattle
-makes (the goals of an answer file, `loop-i-preserved`), functions of src/ and strings stay. It stops, and writes nothing,
-where a new name would fall together with another name.
+A name is turned where a file of specs/ or proofs/ declares it, or binds it in a signature or by let, with a dash:
+`rows-for` becomes `rows_for`. Names that Rattle makes (the goals of an answer file, `loop-i-preserved`), functions of src/
+and strings stay. In source files only clauses, ghost fields and ghost imports are read. It stops, and writes nothing,
+where a new name is also that of another definition or import of these files.
 """
 
 import os
@@ -15,11 +16,11 @@ import sys
 # a lemma that is named after a function of the older library, which has another name now
 RENAMED = {"getD-paired": "get_or_paired", "getD-tally": "get_or_tally"}
 LETTER = r"[^\s(){}\[\]:;.,`\"«»|@]"
-WORD = re.compile(rf"(?<!{LETTER}){LETTER}+")
+WORD = re.compile(rf"\"[^\"\n]*\"|(?<!{LETTER}){LETTER}+")
 DECLARED = re.compile(r"^\s*(?:(?:pub|abbrev|unfoldable|data|record)\s+)*(" + LETTER + r"+)\s*(?:[({].*)?:\s(.*)")
 BOUND = re.compile(r"[({]((?:" + LETTER + r"+\s+)+):\s")
 LOCAL = re.compile(r"(?:\blet\s+(" + LETTER + r"+)|λ\s+((?:" + LETTER + r"+\s+)*" + LETTER + r"+)\.)")
-USED = re.compile(r"\buse\s+[\w.·+-]+\.\{([^}]*)\}")
+IMPORTED = re.compile(r"\buse\s+([\w.·+-]+)\.\{([^}]*)\}")
 # what carries clauses in a source file: each clause, ghost field and ghost import, to the brace that closes it
 CLAUSE = re.compile(r"(?m)^\s*(?:ghost\s+use\b[^;]*;|(?:requires|ensures)\b|ghost\s+\w+\s*[:=])")
 
@@ -38,7 +39,7 @@ def read(path):
 
 
 def declared(text):
-    """The names that a text declares, but for the goals that it answers."""
+    """The names that a text declares or binds, but for the goals that it answers."""
     for line in text.splitlines():
         if line.lstrip().startswith("--"):
             continue
@@ -56,16 +57,13 @@ def turned(name):
 
 
 def table(texts):
-    """The names to turn. A name that is declared already, or that comes from the library, is taken."""
+    """The names to turn, and those of them that would fall together with another name."""
     mine = {n for t in texts.values() for n in declared(t)}
-    taken = set(mine)
-    for t in texts.values():
-        for path, names in re.findall(r"\buse\s+([\w.·+-]+)\.\{([^}]*)\}", t):
-            if path.startswith(("Rattle.std", "native", "borrow", "denote", "logic", "Prim")):
-                taken |= {n.strip().split(" as ")[-1].strip() for n in names.split(",")}
+    others = {n.strip().split(" as ")[-1].strip() for t in texts.values() for _, names in IMPORTED.findall(t) for n in names.split(",")}
     names = {n: turned(n) for n in mine if turned(n) != n}
-    together = sorted(n for n in names if names[n] in taken)
-    return names, together
+    kept = (mine | others) - set(names)
+    new = list(names.values())
+    return names, sorted(n for n in names if names[n] in kept or new.count(names[n]) > 1)
 
 
 def respelled(text, names):

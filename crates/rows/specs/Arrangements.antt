@@ -6,7 +6,7 @@
 -- IsRow          a row: an arrangement that never falls from one voice to the next
 -- Earlier        of two rows, the one that is lower at the first voice where they differ
 -- semitones_of   the first n pitches of the code, as numbers
-use Rattle.std.specs.Prelude.{◌≡◌, ℕ, ◌<◌, ◌≤◌, Bool, true, false, ◌&&◌, leb, ◌⊎◌, List, [], ◌∷◌, map, take, nat_le}
+use Rattle.std.specs.Prelude.{◌≡◌, ℕ, ◌<◌, ◌≤◌, Bool, true, false, ◌&&◌, ◌⊎◌, List, [], ◌∷◌, map, take, nat_le}
 use Rattle.harmony.specs.Chords.{Harmony, tally}
 use Rattle.harmony.specs.Neighbours.{neighbours}
 use Rattle.harmony.specs.Pitches.{class}
@@ -31,7 +31,7 @@ pub record Arranged (vs : List Bounds) (c : Harmony) (ps : List ℕ) : Type 0 wh
 
 -- no pitch is lower than that of the voice below
 abbrev pub ascends : List ℕ → Bool
-ascends ps = neighbours leb ps
+ascends ps = neighbours nat_le ps
 
 pub record IsRow (vs : List Bounds) (c : Harmony) (ps : List ℕ) : Type 0 where
   pub arranged : Arranged vs c ps

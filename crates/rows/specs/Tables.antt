@@ -5,7 +5,7 @@
 -- together     the rows of several chords as one list
 -- counted      how many rows chords have together, or why they are refused
 -- written      a table after rows were written to its front
-use Rattle.std.specs.Prelude.{ℕ, ◌*◌, Bool, true, cond, ◌&&◌, leb, List, ◌++◌, map, length, drop, Some, None, Ok, Err, Option, Result, nat_le}
+use Rattle.std.specs.Prelude.{ℕ, ◌*◌, Bool, true, cond, ◌&&◌, List, ◌++◌, map, length, drop, Some, None, Ok, Err, Option, Result, nat_le}
 use Rattle.harmony.specs.Chords.{harmony}
 use Rattle.harmony.specs.VoiceRanges.{ranges_of}
 use Rattle.harmony.specs.declared.chord.Chord.{Chord}
@@ -30,10 +30,10 @@ together rss = flat_map (λ rs. rs) rss
 
 -- every chord has a row; none has more than 256
 abbrev pub all_some : List (List (List ℕ)) → Bool
-all_some rss = list_all (λ rs. leb 1 (length rs)) rss
+all_some rss = list_all (λ rs. nat_le 1 (length rs)) rss
 
 abbrev pub all_few : List (List (List ℕ)) → Bool
-all_few rss = list_all (λ rs. leb (length rs) 256) rss
+all_few rss = list_all (λ rs. nat_le (length rs) 256) rss
 
 -- the first condition that a chord meets, each over all chords before the next; few says that none before had too many
 abbrev pub refused_first : Bool → List (List (List ℕ)) → Option Refusal

@@ -4,7 +4,7 @@ ghost use Rattle.harmony.specs.Chords.{harmony};
 ghost use Rattle.harmony.specs.Ranges.{bounds};
 ghost use Rattle.harmony.specs.VoiceRanges.{ranges_of};
 ghost use Rattle.rows.specs.Arrangements.{semitones_of};
-ghost use Rattle.rows.specs.Enumeration.{In, Meant, rows as rows_of_lem};
+ghost use Rattle.rows.specs.Enumeration.{In, Meant, rows as chord_rows};
 ghost use Rattle.rows.specs.Growth.{Completed, footing_of, grown, placed};
 ghost use Rattle.rows.specs.Tables.{rows_for};
 
@@ -41,7 +41,7 @@ fn finish<'a>(
     requires few { length ranges.now ≤ 6 }
     requires top { climb.voices ≡ length ranges.now }
     requires some { rows ≤ 256 }
-    requires sought { (ps : List ℕ) → In ps (grown (semitones_of climb.voices climb.pitches) [] (footing_of climb.footing) climb.left) → In ps (rows_of_lem (map bounds ranges.now) (harmony chord.now)) }
+    requires sought { (ps : List ℕ) → In ps (grown (semitones_of climb.voices climb.pitches) [] (footing_of climb.footing) climb.left) → In ps (chord_rows (map bounds ranges.now) (harmony chord.now)) }
     ensures { Completed (length ranges.now) rows (grown (semitones_of climb.voices climb.pitches) [] (footing_of climb.footing) climb.left) table.old table.new result }
 {
     if !climb.is_sung() {
@@ -71,7 +71,7 @@ fn complete<'a>(
     requires few { length ranges.now ≤ 6 }
     requires under { climb.voices ≤ length ranges.now }
     requires some { rows ≤ 256 }
-    requires sought { (ps : List ℕ) → In ps (grown (semitones_of climb.voices climb.pitches) (drop climb.voices (map bounds ranges.now)) (footing_of climb.footing) climb.left) → In ps (rows_of_lem (map bounds ranges.now) (harmony chord.now)) }
+    requires sought { (ps : List ℕ) → In ps (grown (semitones_of climb.voices climb.pitches) (drop climb.voices (map bounds ranges.now)) (footing_of climb.footing) climb.left) → In ps (chord_rows (map bounds ranges.now) (harmony chord.now)) }
     ensures { Completed (length ranges.now) rows (grown (semitones_of climb.voices climb.pitches) (drop climb.voices (map bounds ranges.now)) (footing_of climb.footing) climb.left) table.old table.new result }
 {
     if climb.voices >= ranges.len() {
