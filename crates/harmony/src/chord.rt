@@ -6,7 +6,7 @@ use crate::pitch::PitchClass;
 mod reading;
 
 // The counts add up to the number of voices, 3 to 6, and one voice at least sings the bass class.
-#[derive(Clone, Copy)]
+#[derive(Clone, Copy, Debug, PartialEq, Eq, Hash)]
 pub struct Chord {
     counts: [u8; 12],
     bass: PitchClass,

@@ -8,7 +8,7 @@ use crate::pitch::Pitch;
 pub type Semitones = u8;
 
 // A move, 0 to 24 semitones.
-#[derive(Clone, Copy)]
+#[derive(Clone, Copy, Debug, PartialEq, Eq, PartialOrd, Ord, Hash)]
 pub struct Move {
     semitones: Semitones,
     ghost bounded: { IsMove semitones },

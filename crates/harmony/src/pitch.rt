@@ -3,14 +3,14 @@ ghost use Rattle.std.specs.Prelude.{◌≡◌, ◌+◌, ◌<◌, ◌≤◌, Matc
 ghost use Rattle.harmony.specs.Pitches.{around, class};
 
 // A pitch in semitones, 0 to 127; 60 is middle C.
-#[derive(Clone, Copy)]
+#[derive(Clone, Copy, Debug, PartialEq, Eq, PartialOrd, Ord, Hash)]
 pub struct Pitch {
     semitones: u8,
     ghost bounded: { semitones ≤ 127 },
 }
 
 // A pitch class, 0 to 11; C is 0.
-#[derive(Clone, Copy)]
+#[derive(Clone, Copy, Debug, PartialEq, Eq, Hash)]
 pub struct PitchClass {
     index: u8,
     ghost bounded: { index < 12 },

@@ -2,7 +2,7 @@
 ghost use Rattle.std.specs.Prelude.{◌≡◌, ◌+◌, ◌≤◌, length};
 ghost use Rattle.harmony.specs.Qualities.{name_of, named_among, quality_of, tones_of};
 
-#[derive(Clone, Copy)]
+#[derive(Clone, Copy, Debug, PartialEq, Eq, Hash)]
 pub enum Quality {
     Major,
     Minor,
@@ -20,7 +20,7 @@ pub enum Quality {
 
 // The notes of a quality in semitones above the root, and the notes that are doubled, in that order, where voices are left.
 // Both together are enough for six voices.
-#[derive(Clone, Copy)]
+#[derive(Clone, Copy, Debug, PartialEq, Eq, Hash)]
 pub struct Tones {
     pub notes: &'static [u8],
     pub doubled: &'static [u8],

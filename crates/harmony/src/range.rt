@@ -5,14 +5,14 @@ ghost use Rattle.harmony.specs.Ranges.{bounds, proper};
 use crate::pitch::Pitch;
 
 // A low and a high as a caller wrote them.
-#[derive(Clone, Copy)]
+#[derive(Clone, Copy, Debug, PartialEq, Eq, Hash)]
 pub struct Bounds {
     pub low: u16,
     pub high: u16,
 }
 
 // The lowest and the highest pitch of a voice.
-#[derive(Clone, Copy)]
+#[derive(Clone, Copy, Debug, PartialEq, Eq, Hash)]
 pub struct Range {
     pub low: Pitch,
     pub high: Pitch,

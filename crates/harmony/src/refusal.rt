@@ -1,8 +1,11 @@
 // Every refusal of the product, with the number that a caller is answered and the place that a chart is faulted at.
-ghost use Rattle.std.specs.Prelude.{◌≡◌};
-ghost use Rattle.harmony.specs.Refusals.{tells};
+ghost use Rattle.std.specs.Prelude.{◌≡◌, Some};
+ghost use Rattle.harmony.specs.Refusals.{sentence, tells};
 
-#[derive(Clone, Copy)]
+use std::error::Error;
+use std::fmt;
+
+#[derive(Clone, Copy, Debug, PartialEq, Eq, Hash)]
 pub enum Refusal {
     // the ranges are not three to six
     VoiceNumber,
@@ -47,7 +50,7 @@ pub enum Refusal {
 }
 
 // Where a chart is at fault: a byte offset, by rule.
-#[derive(Clone, Copy)]
+#[derive(Clone, Copy, Debug, PartialEq, Eq, Hash)]
 pub enum Fault {
     // offset 0
     ChartStart,
@@ -60,7 +63,7 @@ pub enum Fault {
 }
 
 // What a refusal tells: its number, and the rule for its place where a chart can meet it.
-#[derive(Clone, Copy)]
+#[derive(Clone, Copy, Debug, PartialEq, Eq, Hash)]
 pub struct Notice {
     pub number: u8,
     pub fault: Option<Fault>,
@@ -96,3 +99,36 @@ impl Refusal {
         Notice { number, fault }
     }
 }
+
+impl fmt::Display for Refusal {
+    ghost output = { λ refusal. Some (sentence refusal) };
+
+    fn fmt<W: fmt::Write>(&self, f: &mut fmt::Formatter<W>) -> fmt::Result {
+        f.write_str(match self {
+            Refusal::VoiceNumber => "the ranges are not three to six",
+            Refusal::ImproperRange =>
+                "a pitch above 127, a low above its high, or a high more than 24 above its low",
+            Refusal::FallingRange => "a low or a high falls from a voice to the next",
+            Refusal::NoRoot => "the symbol does not begin with a letter A to G",
+            Refusal::UnknownQuality => "the quality is not in the list",
+            Refusal::MalformedBass =>
+                "the slash is not followed by exactly one letter A to G with at most one accidental",
+            Refusal::TooManyNotes => "the quality has more notes than there are voices",
+            Refusal::ForeignBass => "the bass is no class of the chord",
+            Refusal::NoRow => "the chord has no row",
+            Refusal::TooManyRows => "the chord has more than 256 rows",
+            Refusal::BoardFull => "64 chords stand",
+            Refusal::NoSuchPlace => "the place is not one of a standing chord",
+            Refusal::NoChord => "no chord stands",
+            Refusal::ShortRowTable => "the row table is shorter than needed",
+            Refusal::ShortCostTable => "the cost table is shorter than needed",
+            Refusal::ShortPitchSheet => "the pitch sheet is shorter than needed",
+            Refusal::ShortFigureLine => "the figure line is shorter than the measure's figures",
+            Refusal::LongChart => "the chart has more bytes than a chart may have",
+            Refusal::MalformedHeading => "a line of the chart's heading is malformed",
+            Refusal::ShortPage => "the listing is longer than the page",
+        })
+    }
+}
+
+impl Error for Refusal {}

@@ -7,7 +7,7 @@ use crate::quality::Quality;
 use crate::refusal::Refusal;
 
 // What a symbol says.
-#[derive(Clone, Copy)]
+#[derive(Clone, Copy, Debug, PartialEq, Eq, Hash)]
 pub struct Symbol {
     pub root: PitchClass,
     pub quality: Quality,

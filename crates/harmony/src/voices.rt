@@ -7,7 +7,7 @@ use crate::range::Range;
 mod setting;
 
 // How many voices there are: 3 to 6.
-#[derive(Clone, Copy)]
+#[derive(Clone, Copy, Debug, PartialEq, Eq, Hash)]
 pub struct VoiceCount {
     number: usize,
     ghost fewest: { 3 ≤ number },
