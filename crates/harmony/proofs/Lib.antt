@@ -1,11 +1,8 @@
 pub mod Chords
 pub mod Counts
 pub mod Neighbours
-pub mod Notes
 pub mod Paired
 pub mod Passing
-pub mod Qualities
 pub mod Ranges
 pub mod Slashes
-pub mod Symbols
 pub mod Tally

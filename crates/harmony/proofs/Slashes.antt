@@ -1,35 +1,24 @@
--- The search for the first slash of a text.
-use Rattle.std.proofs.Common.{◌≡◌, ℕ, ◌+◌, ◌<◌, ◌≤◌, cond, eqb, List, [], ◌∷◌, ◌++◌, length, get_or, take, drop, Some, None, Option, sym, ap, ◌∙◌}
+-- The text around the first slash.
+use Rattle.std.proofs.Common.{◌≡◌, ℕ, suc, ◌+◌, ◌==◌, cond, not, nat_lt, Bool, true, false, List, [], ◌∷◌, length, take, drop, Some, None, refl, arith}
 use Rattle.harmony.specs.Symbols.{before_slash, behind_slash}
-use Rattle.std.proofs.lemmas.List.{append_assoc, append-nil, at_drop_all, at_drop_more, take_all, take_more}
-use Rattle.std.proofs.lemmas.Bool.{eq-eqb, ne_eqb}
+use Rattle.std.specs.List.{position_or_len}
+use Rattle.std.proofs.lemmas.Grind.{common_steps}
 
-module _ (text : List ℕ) (i : ℕ) (front : List ℕ) (back : Option (List ℕ)) (before : take i text ++ before_slash (drop i text) ≡ front) (behind : behind_slash (drop i text) ≡ back) where
-  before_there : i < length text → before_slash (drop i text) ≡ cond (eqb (get_or text i 0) 47) [] (get_or text i 0 ∷ before_slash (drop (i + 1) text))
-  before_there h = at_drop_more before_slash text i 0 h
+abbrev slash : ℕ → Bool
+slash b = b == 47
 
-  behind_there : i < length text → behind_slash (drop i text) ≡ cond (eqb (get_or text i 0) 47) (Some (drop (i + 1) text)) (behind_slash (drop (i + 1) text))
-  behind_there h = at_drop_more behind_slash text i 0 h
+pub before_is : (text : List ℕ) → take (position_or_len slash text) text ≡ before_slash text
+before_is [] = refl
+before_is (b ∷ bs) =
+    elim (b == 47) as (λ t. take (cond (not t) (1 + position_or_len slash bs) 0) (b ∷ bs) ≡ cond t [] (b ∷ before_slash bs)) [
+      | true ↦ refl
+      | false ↦ grind (arith, common_steps, before_is bs)
+    ]
 
-  -- a slash at i parts the text
-  pub slash_here : i < length text → get_or text i 0 ≡ 47 → (take i text ≡ front) × (back ≡ Some (drop (i + 1) text))
-  slash_here h e =
-      let same = eq-eqb (get_or text i 0) 47 e in (
-        sym (append-nil (take i text)) ∙ ap (λ rest. take i text ++ rest) (sym (rw same at (before_there h))) ∙ before,
-        sym behind ∙ rw same at (behind_there h),
-      )
-
-  -- another byte goes to the front: one turn more
-  pub slash_later : i < length text → (get_or text i 0 ≡ 47 → ⊥) → (take (i + 1) text ++ before_slash (drop (i + 1) text) ≡ front) × (behind_slash (drop (i + 1) text) ≡ back)
-  slash_later h other =
-      let differs = ne_eqb (get_or text i 0) 47 other in (
-        rw (take_more text i 0 h) (append_assoc (take i text) (get_or text i 0 ∷ []) (before_slash (drop (i + 1) text))) ∙ ap (λ rest. take i text ++ rest) (sym (rw differs at (before_there h))) ∙ before,
-        sym (rw differs at (behind_there h)) ∙ behind,
-      )
-
-  -- no slash in the whole text
-  pub slash_none : length text ≤ i → (text ≡ front) × (back ≡ None)
-  slash_none h = (
-    sym (append-nil text) ∙ ap (λ t. t ++ []) (sym (take_all i text h)) ∙ ap (λ rest. take i text ++ rest) (sym (at_drop_all before_slash text i h)) ∙ before,
-    sym behind ∙ at_drop_all behind_slash text i h,
-  )
+pub behind_is : (text : List ℕ) → cond (nat_lt (position_or_len slash text) (length text)) (Some (drop (position_or_len slash text + 1) text)) None ≡ behind_slash text
+behind_is [] = refl
+behind_is (b ∷ bs) =
+    elim (b == 47) as (λ t. cond (nat_lt (cond (not t) (1 + position_or_len slash bs) 0) (suc (length bs))) (Some (drop (cond (not t) (1 + position_or_len slash bs) 0 + 1) (b ∷ bs))) None ≡ cond t (Some bs) (behind_slash bs)) [
+      | true ↦ grind (arith, common_steps)
+      | false ↦ grind (arith, common_steps, behind_is bs)
+    ]

@@ -5,5 +5,6 @@ pub mod Pitches
 pub mod Qualities
 pub mod Ranges
 pub mod Refusals
+pub mod Results
 pub mod Symbols
 pub mod VoiceRanges

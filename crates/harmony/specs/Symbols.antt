@@ -2,6 +2,7 @@
 --
 -- letter       the class of a root letter
 -- note         a note's name at the front of a text: its class, and the text behind it
+-- named        what a note's name of the code says
 -- Reading      a symbol taken apart
 -- reading      what a symbol of the code says
 -- symbol_of    what a symbol says, or why it is none
@@ -16,8 +17,9 @@ use Rattle.harmony.specs.declared.pitch.PitchClass.{PitchClass}
 use Rattle.harmony.specs.declared.quality.Quality.{Quality}
 use Rattle.harmony.specs.declared.refusal.Refusal.{Refusal}
 use Rattle.harmony.specs.declared.refusal.Refusal.TheVariants.{NoRoot, UnknownQuality, MalformedBass, TooManyNotes, ForeignBass}
+use Rattle.harmony.specs.declared.symbol.NoteName.{NoteName}
 use Rattle.harmony.specs.declared.symbol.Symbol.{Symbol}
-use Rattle.std.specs.Option.{unwrap_or}
+use Rattle.std.specs.Option.{option_map, unwrap_or}
 
 -- C D E F G A B, by their codes
 abbrev pub letter : ℕ → Option ℕ
@@ -38,6 +40,10 @@ accidental c (b ∷ bs) =
     cond (b == 35) (record { class = around (c + 1); rest = bs })
     (cond (b == 98) (record { class = around (c + 11); rest = bs }) (record { class = c; rest = b ∷ bs }))
 
+-- a note's name of the code
+abbrev pub named : NoteName → Note
+named n = record { class = n.class.index; rest = n.rest.now }
+
 abbrev pub noted : Option ℕ → List ℕ → Option Note
 noted None bs = None
 noted (Some c) bs = Some (accidental c bs)
@@ -57,8 +63,7 @@ behind_slash (b ∷ bs) = cond (b == 47) (Some bs) (behind_slash bs)
 
 -- what a slice of the code holds, where there is one
 abbrev pub held : Option (Bor (List ℕ)) → Option (List ℕ)
-held None = None
-held (Some slice) = Some slice.now
+held slice = option_map (λ s. s.now) slice
 
 pub record Reading : Type 0 where
   pub root : ℕ
@@ -66,8 +71,7 @@ pub record Reading : Type 0 where
   pub bass : Option ℕ
 
 abbrev pub indices : Option PitchClass → Option ℕ
-indices None = None
-indices (Some c) = Some c.index
+indices class = option_map (λ c. c.index) class
 
 abbrev pub reading : Symbol → Reading
 reading s = record { root = s.root.index; quality = s.quality; bass = indices s.bass }

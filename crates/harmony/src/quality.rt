@@ -27,34 +27,7 @@ pub struct Tones {
     ghost enough: { 6 ≤ length notes.now + length doubled.now },
 }
 
-// The first of some qualities that a text names.
-fn named_among(qualities: &[Quality], text: &[u8]) -> Option<Quality>
-    ensures { result ≡ named_among qualities.now text.now }
-{
-    for quality in qualities {
-        if text == quality.name() {
-            return Some(*quality);
-        }
-    }
-    None
-}
-
 impl Quality {
-    const ALL: [Quality; 12] = [
-        Quality::Major,
-        Quality::Minor,
-        Quality::Diminished,
-        Quality::Augmented,
-        Quality::Suspended,
-        Quality::Sixth,
-        Quality::MinorSixth,
-        Quality::Seventh,
-        Quality::MajorSeventh,
-        Quality::MinorSeventh,
-        Quality::HalfDiminished,
-        Quality::DiminishedSeventh,
-    ];
-
     // The text that names it in a symbol.
     pub fn name(self) -> &'static [u8]
         ensures { result.now ≡ name_of self }
@@ -79,7 +52,21 @@ impl Quality {
     pub fn named(text: &[u8]) -> Option<Quality>
         ensures { result ≡ quality_of text.now }
     {
-        named_among(&Quality::ALL, text)
+        Some(match text {
+            b"" => Quality::Major,
+            b"m" => Quality::Minor,
+            b"dim" => Quality::Diminished,
+            b"aug" => Quality::Augmented,
+            b"sus4" => Quality::Suspended,
+            b"6" => Quality::Sixth,
+            b"m6" => Quality::MinorSixth,
+            b"7" => Quality::Seventh,
+            b"maj7" => Quality::MajorSeventh,
+            b"m7" => Quality::MinorSeventh,
+            b"m7b5" => Quality::HalfDiminished,
+            b"dim7" => Quality::DiminishedSeventh,
+            _ => return None,
+        })
     }
 
     // Its notes, and which of them are doubled.

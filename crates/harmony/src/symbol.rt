@@ -1,6 +1,7 @@
 // Chord symbols: a root, a quality, and perhaps a slash with a bass.
-ghost use Rattle.std.specs.Prelude.{◌≡◌, ◌-◌, ◌≤◌, length, drop, Some, None, Ok, Err, MatchOption, MatchResult};
-ghost use Rattle.harmony.specs.Symbols.{accidental, before_slash, behind_slash, held, indices, letter, note, reading, slashed, symbol_of};
+ghost use Rattle.std.specs.Prelude.{◌≡◌, ◌==◌, option_map, position};
+ghost use Rattle.harmony.specs.Results.{result_map};
+ghost use Rattle.harmony.specs.Symbols.{accidental, alone, before_slash, behind_slash, held, indices, letter, named, note, reading, slashed, symbol_of};
 
 use crate::pitch::PitchClass;
 use crate::quality::Quality;
@@ -16,7 +17,7 @@ pub struct Symbol {
 
 // The class of a root letter.
 fn letter(byte: u8) -> Option<PitchClass>
-    ensures { MatchOption result (letter byte ≡ None) (λ c. letter byte ≡ Some c.index) }
+    ensures { indices result ≡ letter byte }
 {
     let semitones = match byte as char {
         'C' => 0,
@@ -31,40 +32,43 @@ fn letter(byte: u8) -> Option<PitchClass>
     Some(PitchClass::C.above(semitones))
 }
 
-// A note's name at the front of a text: its class, and how many bytes the name has.
+// A note's name at the front of a text: its class, and the text behind it.
 #[derive(Clone, Copy)]
-struct NoteName {
+struct NoteName<'a> {
     class: PitchClass,
-    length: usize,
+    rest: &'a [u8],
 }
 
 // A letter's name with the accidental that may stand behind the letter.
-fn accidental(class: PitchClass, behind: &[u8]) -> NoteName
-    ensures is { accidental class.index behind.now ≡ record { class = result.class.index; rest = drop (result.length - 1) behind.now } }
-    ensures letter { 1 ≤ result.length }
-    ensures within { result.length - 1 ≤ length behind.now }
+fn accidental(class: PitchClass, behind: &[u8]) -> NoteName<'_>
+    ensures { named result ≡ accidental class.index behind.now }
 {
     match behind {
-        [b'#', ..] => NoteName {
+        [b'#', rest @ ..] => NoteName {
             class: class.above(1),
-            length: 2,
+            rest,
         },
-        [b'b', ..] => NoteName {
+        [b'b', rest @ ..] => NoteName {
             class: class.above(11),
-            length: 2,
+            rest,
         },
-        _ => NoteName { class, length: 1 },
+        rest => NoteName { class, rest },
     }
 }
 
 // The note that is named at the front of a text.
-fn note(text: &[u8]) -> Option<NoteName>
-    ensures { MatchOption result (note text.now ≡ None) (λ n. (note text.now ≡ Some (record { class = n.class.index; rest = drop n.length text.now })) × (n.length ≤ length text.now)) }
+fn note(text: &[u8]) -> Option<NoteName<'_>>
+    ensures { option_map named result ≡ note text.now }
 {
-    let [first, behind @ ..] = text else {
-        return None;
-    };
+    let (first, behind) = text.split_first()?;
     Some(accidental(letter(*first)?, behind))
+}
+
+// The place of the first slash.
+fn slash(text: &[u8]) -> Option<usize>
+    ensures { result ≡ position (λ b. b == 47) text.now }
+{
+    text.iter().position(|byte| *byte == b'/')
 }
 
 // The text before the first slash, and the text behind it where there is one.
@@ -72,43 +76,39 @@ fn split(text: &[u8]) -> (&[u8], Option<&[u8]>)
     ensures before { result.0.now ≡ before_slash text.now }
     ensures behind { held result.1 ≡ behind_slash text.now }
 {
-    for (i, byte) in text.iter().enumerate() {
-        if *byte == b'/' {
-            return (&text[0..i], Some(&text[i + 1..]));
-        }
+    match slash(text) {
+        Some(i) => (&text[..i], Some(&text[i + 1..])),
+        None => (text, None),
     }
-    (text, None)
+}
+
+// The class of a note's name with nothing behind it.
+fn alone(text: &[u8]) -> Option<PitchClass>
+    ensures { indices result ≡ alone (note text.now) }
+{
+    note(text)
+        .filter(|name| name.rest.is_empty())
+        .map(|name| name.class)
 }
 
 // The bass that is named behind a slash, where there is a slash.
 fn slashed(behind: Option<&[u8]>) -> Result<Option<PitchClass>, Refusal>
-    ensures { MatchResult result (λ b. slashed (held behind.entry) ≡ Ok (indices b)) (λ e. slashed (held behind.entry) ≡ Err e) }
+    ensures { result_map indices result ≡ slashed (held behind.entry) }
 {
     let Some(text) = behind else {
         return Ok(None);
     };
-    let Some(bass) = note(text) else {
-        return Err(Refusal::MalformedBass);
-    };
-    if bass.length < text.len() {
-        return Err(Refusal::MalformedBass);
-    }
-    Ok(Some(bass.class))
+    alone(text).map(Some).ok_or(Refusal::MalformedBass)
 }
 
 impl Symbol {
     // What a symbol says, or why it is none.
     pub fn read(bytes: &[u8]) -> Result<Symbol, Refusal>
-        ensures { MatchResult result (λ s. symbol_of bytes.now ≡ Ok (reading s)) (λ e. symbol_of bytes.now ≡ Err e) }
+        ensures { result_map reading result ≡ symbol_of bytes.now }
     {
-        let Some(root) = note(bytes) else {
-            return Err(Refusal::NoRoot);
-        };
-        let end = root.length;
-        let (name, behind) = split(&bytes[end..]);
-        let Some(quality) = Quality::named(name) else {
-            return Err(Refusal::UnknownQuality);
-        };
+        let root = note(bytes).ok_or(Refusal::NoRoot)?;
+        let (name, behind) = split(root.rest);
+        let quality = Quality::named(name).ok_or(Refusal::UnknownQuality)?;
         let bass = slashed(behind)?;
         Ok(Symbol {
             root: root.class,
