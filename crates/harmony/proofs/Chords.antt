@@ -17,8 +17,8 @@ module _ (n : ℕ) (s : Reading) (notes doubled counts : List ℕ) (bass : ℕ) 
       (rw notes_are at (le-leb (length notes) n few))
       ∙ (λ i. settled (sung_is i) (sym lowest i))
 
-  pub chord_foreign : get_or counts bass 0 ≡ 0 → chord_with n s ≡ Err ForeignBass
-  chord_foreign e = chord_is ∙ rw e
+  pub chord_foreign : get_or counts bass 0 ≡ 0 → Err ForeignBass ≡ chord_with n s
+  chord_foreign e = sym (chord_is ∙ rw e)
 
-  pub chord_accepted : 1 ≤ get_or counts bass 0 → chord_with n s ≡ Ok (record { counts = counts; bass = bass })
-  chord_accepted h = chord_is ∙ rw (le-leb 1 (get_or counts bass 0) h)
+  pub chord_accepted : 1 ≤ get_or counts bass 0 → Ok (record { counts = counts; bass = bass }) ≡ chord_with n s
+  chord_accepted h = sym (chord_is ∙ rw (le-leb 1 (get_or counts bass 0) h))

@@ -2,8 +2,9 @@
 --
 -- bounds   the low and the high of a range, as plain numbers
 -- proper   no pitch above 127, no low above its high, no high more than 24 above its low
+-- ranged   the range that bounds are, where they are proper
 -- rising   from a voice to the next neither the low nor the high falls
-use Rattle.std.specs.Prelude.{ℕ, ◌+◌, ◌%◌, Bool, cond, ◌&&◌, List, [], ◌∷◌, length, Ok, Err, Result, ◌==◌, nat_le}
+use Rattle.std.specs.Prelude.{ℕ, ◌+◌, ◌%◌, Bool, cond, ◌&&◌, List, [], ◌∷◌, length, Ok, Err, Result, ◌==◌, nat_le, slice_index}
 use Rattle.harmony.specs.Neighbours.{neighbours}
 use Rattle.harmony.specs.declared.range.Bounds.{Bounds}
 use Rattle.harmony.specs.declared.range.Range.{Range}
@@ -16,6 +17,9 @@ bounds r = record { low = r.low.semitones; high = r.high.semitones }
 
 abbrev pub proper : Bounds → Bool
 proper b = nat_le b.high 127 && (nat_le b.low b.high && nat_le b.high (b.low + 24))
+
+abbrev pub ranged : Bounds → Result Bounds Refusal
+ranged b = cond (proper b) (Ok b) (Err ImproperRange)
 
 abbrev pub all_proper : List Bounds → Bool
 all_proper bs = list_all proper bs
@@ -36,6 +40,10 @@ voices_of bs =
     cond (three_to_six (length bs))
     (cond (all_proper bs) (cond (rising bs) (Ok bs) (Err FallingRange)) (Err ImproperRange))
     (Err VoiceNumber)
+
+-- low and high as two bytes
+abbrev pub low_high : List ℕ → Bounds
+low_high pair = record { low = slice_index pair 0; high = slice_index pair 1 }
 
 -- low and high of voice 1, then of voice 2, and so on; a last byte without a partner is left out
 abbrev pub paired : List ℕ → List Bounds

@@ -1,6 +1,7 @@
-use Rattle.std.proofs.Common.{◌%◌, length}
+use Rattle.std.proofs.Common.{arith}
+use Rattle.harmony.proofs.Paired.{paired_are}
 use Rattle.harmony.proofs.voices.Voices.from_bytes.Goals as goal
-use Rattle.std.proofs.lemmas.Bool.{ne_eqb}
+use Rattle.std.proofs.lemmas.Grind.{common_steps}
 
-pub returns-then-bytes-ne0 : goal.returns-then-bytes-ne0
-returns-then-bytes-ne0 c = rw (ne_eqb (length c.args.bytes.now % 2) 0 c.if-bytes-ne0.true)
+pub returns : goal.returns
+returns c = grind (arith, common_steps, paired_are c.args.bytes.now, c.as_chunks.ensures.front, c.bounds_of.ensures, c.new.ensures)

@@ -1,17 +1,10 @@
-use Rattle.std.proofs.Common.{sym, ◌∙◌, arith}
+use Rattle.std.proofs.Common.{rules}
 use Rattle.harmony.specs.Ranges.{not_lower}
-use Rattle.harmony.proofs.Neighbours.{neighbours_more, neighbours_fail, neighbours_all}
+use Rattle.harmony.proofs.Neighbours.{neighbours_are}
 use Rattle.harmony.proofs.voices.setting.rises.Goals as goal
-
-pub returns-then-not-stands_on : goal.returns-then-not-stands_on
-returns-then-not-stands_on c =
-    neighbours_fail not_lower c.args.within.now c.loop-i.i _ _ (omega arith) (omega arith)
-    (sym c.stands_on.ensures ∙ c.if-not-stands_on.true) c.loop-i.invariant
-
-pub loop-i-preserved : goal.loop-i-preserved
-loop-i-preserved c =
-    neighbours_more not_lower c.args.within.now c.loop-i.i _ _ (omega arith) (omega arith)
-    (sym c.stands_on.ensures ∙ c.if-not-stands_on.false) c.loop-i.invariant
+use Rattle.std.proofs.lemmas.Fn.{always_returns_same}
 
 pub returns : goal.returns
-returns c = neighbours_all not_lower c.args.within.now c.loop-i.i _ (omega arith) c.loop-i.invariant
+returns c =
+    neighbours_are not_lower c.args.within.now _
+    (c.is_sorted_by.ensures.cases not_lower (always_returns_same _ _ _ (λ a r f k. search rules)))
