@@ -33,12 +33,7 @@ impl Move {
     pub fn between(from: Pitch, to: Pitch) -> Option<Move>
         ensures { MatchOption result (IsMove (move from.semitones to.semitones) → ⊥) (λ m. m.semitones ≡ move from.semitones to.semitones) }
     {
-        let (earlier, later) = (from.semitones(), to.semitones());
-        Move::new(if later < earlier {
-            earlier - later
-        } else {
-            later - earlier
-        })
+        Move::new(from.semitones().abs_diff(to.semitones()))
     }
 
     pub const fn semitones(self) -> Semitones

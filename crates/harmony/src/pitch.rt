@@ -1,4 +1,5 @@
 // A pitch, and the class that it shares with its octaves.
+// Pitches, classes and moves are types of their own and not one number with a bound: each names its number otherwise and has calls of its own, and of two alone any number is asked.
 ghost use Rattle.std.specs.Prelude.{◌≡◌, ◌+◌, ◌<◌, ◌≤◌, MatchOption};
 ghost use Rattle.harmony.specs.Pitches.{around, class};
 
@@ -57,9 +58,8 @@ impl PitchClass {
     pub const fn above(self, semitones: u8) -> PitchClass
         ensures { result.index ≡ around (self.index + semitones) }
     {
-        let sum = self.index as u16 + semitones as u16;
         PitchClass {
-            index: (sum % 12) as u8,
+            index: (self.index + semitones % 12) % 12,
         }
     }
 

@@ -15,6 +15,7 @@ pub struct VoiceCount {
 }
 
 // The ranges of the voices, from the lowest voice up; what stands behind the last voice means nothing.
+// An array with a count, since voices are copied and an `ArrayVec` has no `Copy`.
 #[derive(Clone, Copy)]
 pub struct Voices {
     count: VoiceCount,
@@ -28,10 +29,10 @@ impl VoiceCount {
     pub fn new(number: usize) -> Option<VoiceCount>
         ensures { MatchOption result ((3 ≤ number → 6 < number)) (λ n. n.number ≡ number) }
     {
-        if number < 3 || number > 6 {
-            return None;
+        match number {
+            3..=6 => Some(VoiceCount { number }),
+            _ => None,
         }
-        Some(VoiceCount { number })
     }
 
     pub fn number(self) -> usize

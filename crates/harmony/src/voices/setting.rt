@@ -34,6 +34,7 @@ fn ranges_within(within: &[Bounds]) -> Result<[Range; 6], Refusal>
         low: Pitch::MIDDLE_C,
         high: Pitch::MIDDLE_C,
     }; 6];
+    // by index, since behind a zip with `iter_mut` nothing is known of what was written
     for (i, bounds) in within.iter().enumerate() {
         ranges[i] = Range::try_from(*bounds)?;
     }

@@ -1,4 +1,4 @@
-use Rattle.std.proofs.Common.{◌++◌, take, ◌∙◌, arith, rules}
+use Rattle.std.proofs.Common.{◌≤◌, ◌++◌, length, take, ◌∙◌, arith, rules}
 use Rattle.harmony.proofs.Counts.{count_le, counts_all, counts_more}
 use Rattle.harmony.proofs.chord.reading.counts.Goals as goal
 use Rattle.std.proofs.lemmas.Iterator.{YieldsList-from_slice, YieldsList-from_take}
@@ -29,6 +29,7 @@ returns c =
     let notes = c.args.tones.notes.now in
     let doubled = c.args.tones.doubled.now in
     let n = c.args.voices.number in
+    let few : n ≤ length (notes ++ doubled) = omega (arith, length-append notes doubled) in
     let taken = YieldsList-from_take n (YieldsList-from_chain (YieldsList-from_slice notes (cc)) (YieldsList-from_slice doubled (cc)) (cc) (cc)) (cc) in
     let end = YieldsList-end taken c.loop-tone.yielded _ c.loop-tone.yielded_by _ _ c.in-None.is c.next.ensures.steps in
     let whole = rw end.0 at c.loop-tone.invariant.so_far in
@@ -36,5 +37,5 @@ returns c =
       is = whole;
       all =
           counts_all c.args.root.index (take n (notes ++ doubled)) c.loop-tone.counts whole
-          ∙ length-take-le n (notes ++ doubled) (omega (arith, length-append notes doubled));
+          ∙ length-take-le n (notes ++ doubled) few;
     }
