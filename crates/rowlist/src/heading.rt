@@ -1,7 +1,7 @@
 // The line of ranges that stands before the symbols.
-ghost use Rattle.std.specs.Prelude.{◌≡◌, drop, Ok, Err, MatchResult};
-ghost use Rattle.harmony.specs.VoiceRanges.{ranges_of};
-ghost use Rattle.rowlist.specs.Headings.{opening};
+ghost use Rattle.std.specs.Prelude.{◌≡◌};
+ghost use Rattle.harmony.specs.Results.{result_map};
+ghost use Rattle.rowlist.specs.Headings.{opened, opening};
 
 use harmony::refusal::Refusal;
 use harmony::voices::Voices;
@@ -17,7 +17,7 @@ pub struct Heading {
 
 // The heading of a chart, or why it is refused.
 pub fn read_heading(chart: &[u8]) -> Result<Heading, Refusal>
-    ensures { MatchResult result (λ h. opening chart.now ≡ Ok (record { ranges = ranges_of h.voices; rest = drop h.body chart.now })) (λ e. opening chart.now ≡ Err e) }
+    ensures { result_map (opened chart.now) result ≡ opening chart.now }
 {
     if chart.len() > CHART_LIMIT {
         return Err(Refusal::LongChart);

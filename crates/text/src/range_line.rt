@@ -1,5 +1,6 @@
 // The line of ranges, a chart's first line.
 ghost use Rattle.std.specs.Prelude.{◌≡◌, ◌+◌, ◌^◌, ◌<◌, ◌≤◌, length, drop, replicate, Some, None, Ok, Err, codes, MatchBool, MatchResult};
+ghost use Rattle.harmony.specs.Results.{result_map};
 ghost use Rattle.harmony.specs.VoiceRanges.{ranges_of};
 ghost use Rattle.harmony.specs.declared.refusal.Refusal.TheVariants.{MalformedHeading};
 ghost use Rattle.text.specs.RangeLines.{behind, range_line};
@@ -62,7 +63,7 @@ impl RangeLine {
 
     // The voices with these ranges, or the first rule that they break.
     pub fn voices(&self) -> Result<Voices, Refusal>
-        ensures { MatchResult result (λ v. voices_within self.now.count self.now.first ≡ Ok (ranges_of v)) (λ e. voices_within self.now.count self.now.first ≡ Err e) }
+        ensures { result_map ranges_of result ≡ voices_within self.now.count self.now.first }
     {
         if self.count > 6 {
             return Err(Refusal::VoiceNumber);
