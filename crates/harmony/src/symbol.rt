@@ -19,7 +19,7 @@ pub struct Symbol {
 fn letter(byte: u8) -> Option<PitchClass>
     ensures { indices result ≡ letter byte }
 {
-    let semitones = match byte as char {
+    let semitones = match char::from(byte) {
         'C' => 0,
         'D' => 2,
         'E' => 4,
