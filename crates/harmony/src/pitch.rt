@@ -1,5 +1,5 @@
 // A pitch, and the class that it shares with its octaves.
-// Pitches, classes and moves are types of their own and not one number with a bound: each names its number otherwise and has calls of its own, and of two alone any number is asked.
+// Pitches, classes and moves stay three types and not one bounded number: each has its own word for its number and its own calls, and only two have a `new` that they could share.
 ghost use Rattle.std.specs.Prelude.{◌≡◌, ◌+◌, ◌<◌, ◌≤◌, MatchOption};
 ghost use Rattle.harmony.specs.Pitches.{around, class};
 
