@@ -1,14 +1,21 @@
 -- The rows that begin with the pitches chosen so far.
-use Rattle.std.proofs.Common.{◌≡◌, ℕ, ◌+◌, ◌<◌, ◌≤◌, Bool, true, false, cond, List, [], ◌∷◌, ◌++◌, map, length, drop, Ok, sym, refl, ap, ◌∙◌, subst, inl, append_assoc, append-nil, arith}
-use Rattle.harmony.specs.Chords.{Harmony}
+use Rattle.std.proofs.Common.{◌≡◌, ℕ, ◌≤◌, Bool, true, false, cond, List, [], ◌∷◌, ◌++◌, map, length, take, drop, Ok, sym, refl, ap, ◌∙◌, subst, inl, append_assoc, append-nil, arith}
+use Rattle.harmony.specs.Chords.{Harmony, harmony}
 use Rattle.harmony.specs.Pitches.{class}
+use Rattle.harmony.specs.Ranges.{bounds}
+use Rattle.harmony.specs.declared.chord.Chord.{Chord}
 use Rattle.harmony.specs.declared.pitch.Pitch.{Pitch}
+use Rattle.harmony.specs.declared.range.Range.{Range}
+use Rattle.harmony.specs.declared.voices.Voices.{Voices}
 use Rattle.harmony.specs.declared.range.Bounds.{Bounds}
 use Rattle.rows.specs.Arrangements.{IsRow, semitones_of}
 use Rattle.rows.specs.Enumeration.{Footing, In, above, all_zero, bass, less, may, pitches, rows, rows_on}
-use Rattle.rows.specs.Growth.{Completed, grown, placed}
+use Rattle.rows.specs.Growth.{Completed, footing_of, grown}
+use Rattle.rows.specs.Searches.{rows_beyond}
+use Rattle.rows.specs.Tables.{rows_for}
+use Rattle.rows.specs.declared.climb.Climb.{Climb}
 use Rattle.rows.proofs.Meaning.{meant}
-use Rattle.std.proofs.lemmas.List.{map-append, map-id}
+use Rattle.std.proofs.lemmas.List.{length-take-le, map-append, map-id}
 use Rattle.std.proofs.lemmas.Bool.{cond-true, cond-false}
 use Rattle.std.specs.List.{flat_map}
 
@@ -18,19 +25,13 @@ module _ (chosen : List ℕ) (footing : Footing) (left : List ℕ) where
   unfolding grown
   grown_none e = cond-false (all_zero left) (chosen ∷ []) [] e
 
-  grown_one : all_zero left ≡ true → grown chosen [] footing left ≡ chosen ∷ []
+  pub grown_one : all_zero left ≡ true → grown chosen [] footing left ≡ chosen ∷ []
   unfolding grown
   grown_one e = cond-true (all_zero left) (chosen ∷ []) [] e
-
-  pub grown_past : (k m : ℕ) → all_zero left ≡ true → m ≤ k → m < k + length (grown chosen [] footing left)
-  grown_past k m e h = rw (grown_one e) (omega arith)
 
   module _ (n k : ℕ) (table : List ℕ) where
     pub completed_none : all_zero left ≡ false → k ≤ 256 → Completed n k (grown chosen [] footing left) table table (Ok k)
     completed_none e h = rw (grown_none e) (omega arith, h, refl)
-
-    pub completed_one : all_zero left ≡ true → k < 256 → (after : List ℕ) → after ≡ placed n table k chosen → Completed n k (grown chosen [] footing left) table after (Ok (k + 1))
-    completed_one e h after p = rw (grown_one e) (refl, omega arith, p)
 
   -- what has come to the top of a search for rows is a row
   pub row_at_top : (vs : List Bounds) (c : Harmony) → length c.counts ≡ 12 → all_zero left ≡ true → ((ps : List ℕ) → In ps (grown chosen [] footing left) → In ps (rows vs c)) → IsRow vs c chosen
@@ -74,3 +75,10 @@ pub grown_start : (vs : List Bounds) (c : Harmony) (i : ℕ) (ps : List Pitch) (
 grown_start vs c i ps footing left ei ef el =
     ap (λ m. grown (semitones_of m ps) (drop m vs) footing left) ei ∙ ap (λ f. grown [] vs f left) ef ∙ ap (grown [] vs (bass c.bass)) el
     ∙ grown_rows vs (bass c.bass) c.counts
+
+-- what a search through the ranges of these voices finds is found for the voices
+pub found_for : (P : ℕ → List (List ℕ) → Type 0) (voices : Voices) (chord : Chord) (ranges : List Range) (start : Climb) → ranges ≡ take voices.count.number voices.ranges → (start.voices ≡ 0) × (footing_of start.footing ≡ bass chord.bass.index) × (start.left ≡ chord.counts) → P (length ranges) (rows_beyond (map bounds ranges) start) → P voices.count.number (rows_for voices chord)
+found_for P voices chord ranges start is told h =
+    let long = ap length is ∙ length-take-le voices.count.number voices.ranges (omega (arith, voices.full, voices.count.most)) in
+    let whole = grown_start (map bounds ranges) (harmony chord) start.voices start.pitches (footing_of start.footing) start.left told.0 told.1 told.2 in
+    subst (λ n. P n (rows_for voices chord)) long (subst (λ rs. P (length ranges) (rows (map bounds rs) (harmony chord))) is (subst (P (length ranges)) whole h))

@@ -8,5 +8,4 @@ pub mod Meaning
 pub mod Members
 pub mod Order
 pub mod Placing
-pub mod Refusing
 pub mod Written

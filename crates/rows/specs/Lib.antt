@@ -2,3 +2,4 @@ pub mod Arrangements
 pub mod Enumeration
 pub mod Growth
 pub mod Tables
+pub mod Searches

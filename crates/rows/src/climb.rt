@@ -37,18 +37,6 @@ impl Footing {
     }
 }
 
-// Whether nothing is left of any count.
-fn all_zero(counts: &[u8]) -> bool
-    ensures { result ≡ all_zero counts.now }
-{
-    for count in counts {
-        if *count != 0 {
-            return false;
-        }
-    }
-    true
-}
-
 impl Climb {
     // No voice has sung yet.
     pub(crate) fn start(chord: &Chord) -> Climb
@@ -89,6 +77,6 @@ impl Climb {
     pub(crate) fn is_sung(self) -> bool
         ensures { result ≡ all_zero self.left }
     {
-        all_zero(&self.left)
+        self.left.iter().all(|count| *count == 0)
     }
 }

@@ -3,7 +3,8 @@
 #![tactic(auto)]
 
 mod climb;
-mod completion;
+mod found;
 pub mod progression;
 pub mod row;
+mod search;
 pub mod table;

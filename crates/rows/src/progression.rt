@@ -1,33 +1,27 @@
 // The rows of a chord progression, one chord after the other in a table of bytes.
-ghost use Rattle.std.specs.Prelude.{◌≡◌, ◌*◌, ◌<◌, ◌≤◌, true, [], ◌++◌, length, drop, None, Ok, MatchOption};
+ghost use Rattle.std.specs.Prelude.{◌≡◌, ◌*◌, ◌<◌, ◌≤◌, true, [], ◌++◌, length, drop, None, Ok, IfOk};
+ghost use Rattle.std.specs.Result.{result_err};
 ghost use Rattle.rows.specs.Tables.{counted, flat, refused_first, rows_for, rows_of_each, together, with_room, written};
 
-use crate::completion::find;
+use crate::search::find;
 use crate::table::write;
 use harmony::chord::Chord;
 use harmony::refusal::Refusal;
 use harmony::voices::Voices;
 
 // The first condition that one of the chords meets: no row in any before too many rows in any.
-fn first_refused(voices: &Voices, chords: &[Chord]) -> Option<Refusal>
-    ensures { result ≡ refused_first true (rows_of_each voices.now chords.now) }
+fn accept(voices: &Voices, chords: &[Chord]) -> Result<(), Refusal>
+    ensures { result_err result ≡ refused_first true (rows_of_each voices.now chords.now) }
 {
-    let mut few = true;
+    let mut answer = Ok(());
     for chord in chords {
         match find(voices, chord, &mut []) {
-            Ok(rows) => {
-                if rows == 0 {
-                    return Some(Refusal::NoRow);
-                }
-            }
-            Err(_) => few = false,
+            Ok(0) => return Err(Refusal::NoRow),
+            Ok(_) => {}
+            Err(refusal) => answer = Err(refusal),
         }
     }
-    if few {
-        None
-    } else {
-        Some(Refusal::TooManyRows)
-    }
+    answer
 }
 
 // How many rows a chord has that does not have too many.
@@ -35,16 +29,14 @@ fn rows_of(voices: &Voices, chord: &Chord) -> usize
     requires { length (rows_for voices.now chord.now) ≤ 256 }
     ensures { result ≡ length (rows_for voices.now chord.now) }
 {
-    match find(voices, chord, &mut []) {
-        Ok(rows) => rows,
-        Err(_) => unreachable(),
-    }
+    find(voices, chord, &mut []).unwrap()
 }
 
 // How many rows the chords have together, where that many bytes hold them; none of the chords is refused.
-fn add_up(voices: &Voices, chords: &[Chord], room: usize) -> Option<usize>
+fn add_up(voices: &Voices, chords: &[Chord], room: usize) -> Result<usize, Refusal>
     requires { refused_first true (rows_of_each voices.now chords.now) ≡ None }
-    ensures { MatchOption result (room < length (together (rows_of_each voices.now chords.now)) * voices.now.count.number) (λ total. (total ≡ length (together (rows_of_each voices.now chords.now))) × (total * voices.now.count.number ≤ room)) }
+    ensures answer { result ≡ with_room voices.now.count.number room (Ok (length (together (rows_of_each voices.now chords.now)))) }
+    ensures fits { IfOk result (λ rows. rows * voices.now.count.number ≤ room) }
 {
     let width = voices.count().number();
     let mut total = 0;
@@ -52,12 +44,12 @@ fn add_up(voices: &Voices, chords: &[Chord], room: usize) -> Option<usize>
     for chord in chords {
         let rows = rows_of(voices, chord);
         if free < rows * width {
-            return None;
+            return Err(Refusal::ShortRowTable);
         }
         free -= rows * width;
         total += rows;
     }
-    Some(total)
+    Ok(total)
 }
 
 // Writes the rows of chords that are not refused, one after the other, to the front of a table that holds them.
@@ -70,9 +62,8 @@ fn fill(voices: &Voices, chords: &[Chord], table: &mut [u8], end: usize)
     let width = voices.count().number();
     let mut from = 0;
     for chord in chords {
-        if let Ok(rows) = write(voices, chord, &mut table[from..end]) {
-            from += rows * width;
-        }
+        let rows = write(voices, chord, &mut table[from..end]).unwrap();
+        from += rows * width;
     }
 }
 
@@ -81,10 +72,8 @@ pub fn write_all(voices: &Voices, chords: &[Chord], table: &mut [u8]) -> Result<
     ensures answer { result ≡ with_room voices.now.count.number (length table.old) (counted (rows_of_each voices.now chords.now)) }
     ensures table { table.new ≡ written voices.now.count.number (together (rows_of_each voices.now chords.now)) table.old result }
 {
-    if let Some(refusal) = first_refused(voices, chords) {
-        return Err(refusal);
-    }
-    let rows = add_up(voices, chords, table.len()).ok_or(Refusal::ShortRowTable)?;
+    accept(voices, chords)?;
+    let rows = add_up(voices, chords, table.len())?;
     fill(voices, chords, table, rows * voices.count().number());
     Ok(rows)
 }

@@ -33,8 +33,8 @@ impl Row<'_> {
         if part.len() < voices {
             return Err(Refusal::ShortRowTable);
         }
-        for i in 0..voices {
-            part[i] = self.pitches[i].semitones();
+        for (voice, pitch) in self.pitches[..voices].iter().enumerate() {
+            part[voice] = pitch.semitones();
         }
         Ok(voices)
     }

@@ -5,7 +5,7 @@ ghost use Rattle.harmony.specs.VoiceRanges.{ranges_of};
 ghost use Rattle.rows.specs.Enumeration.{Meant};
 ghost use Rattle.rows.specs.Tables.{counted, flat, rows_for, with_room, written};
 
-use crate::completion::find;
+use crate::search::find;
 use harmony::chord::Chord;
 use harmony::refusal::Refusal;
 use harmony::voices::Voices;
@@ -28,7 +28,7 @@ fn put(voices: &Voices, chord: &Chord, part: &mut [u8], rows: usize)
     requires room { rows * voices.now.count.number ≤ length part.old }
     ensures { part.new ≡ flat (rows_for voices.now chord.now) ++ drop (rows * voices.now.count.number) part.old }
 {
-    let _ = find(voices, chord, part);
+    find(voices, chord, part).unwrap();
 }
 
 // Writes the rows of a chord, in order, to the front of a part of a row table, and answers how many they are.

@@ -2,5 +2,5 @@ use Rattle.std.proofs.Common.{◌≡◌, ◌++◌, drop}
 use Rattle.rows.specs.Arrangements.{semitones_of}
 use Rattle.rows.proofs.row.Row.write.Given as goal
 
-abbrev pub invariant-loop-i : goal.invariant-loop-i
-invariant-loop-i l = l.part ≡ semitones_of l.i l.self.pitches ++ drop l.i l.initial.part
+abbrev pub invariant-loop-voice : goal.invariant-loop-voice
+invariant-loop-voice l = l.part ≡ semitones_of l.voice l.self.pitches ++ drop l.voice l.initial.part
