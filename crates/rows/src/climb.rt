@@ -31,8 +31,8 @@ impl Footing {
         ensures { result ≡ stands (footing_of self) pitch.semitones }
     {
         match self {
-            Footing::Bass(class) => pitch.class().index() == class.index(),
-            Footing::Above(lower) => lower.semitones() <= pitch.semitones(),
+            Footing::Bass(class) => pitch.class() == class,
+            Footing::Above(lower) => lower <= pitch,
         }
     }
 }
@@ -57,7 +57,7 @@ impl Climb {
         ensures { MatchOption result ((self.voices < 6 → semitones ≤ 127 → may (footing_of self.footing) self.left semitones ≡ false)) (λ up. (may (footing_of self.footing) self.left semitones ≡ true) × (up.voices ≡ self.voices + 1) × (semitones_of up.voices up.pitches ≡ semitones_of self.voices self.pitches ++ semitones ∷ []) × (footing_of up.footing ≡ above semitones) × (up.left ≡ less self.left (class semitones))) }
     {
         let pitch = Pitch::new(semitones)?;
-        let class = pitch.class().index() as usize;
+        let class = usize::from(pitch.class().index());
         if self.voices >= 6 || !self.footing.bears(pitch) || self.left[class] == 0 {
             return None;
         }
