@@ -2,58 +2,58 @@
 use harmony::chord::Chord;
 use harmony::voices::VoiceCount;
 
-// A symbol, a number of voices, and the counts of the classes C to B; no digits where it is refused 7.
-struct Doubled(&'static [u8], usize, &'static [u8]);
+// A symbol, a number of voices, and the counts of the classes C to B or the number of the refusal.
+struct Doubled(&'static [u8], usize, Result<&'static [u8], u8>);
 
 const DOUBLED: [Doubled; 48] = [
-    Doubled(b"C", 3, b"100010010000"),
-    Doubled(b"C", 4, b"200010010000"),
-    Doubled(b"C", 5, b"200010020000"),
-    Doubled(b"C", 6, b"200020020000"),
-    Doubled(b"Cm", 3, b"100100010000"),
-    Doubled(b"Cm", 4, b"200100010000"),
-    Doubled(b"Cm", 5, b"200100020000"),
-    Doubled(b"Cm", 6, b"200200020000"),
-    Doubled(b"Cdim", 3, b"100100100000"),
-    Doubled(b"Cdim", 4, b"200100100000"),
-    Doubled(b"Cdim", 5, b"200100200000"),
-    Doubled(b"Cdim", 6, b"200200200000"),
-    Doubled(b"Caug", 3, b"100010001000"),
-    Doubled(b"Caug", 4, b"200010001000"),
-    Doubled(b"Caug", 5, b"200010002000"),
-    Doubled(b"Caug", 6, b"200020002000"),
-    Doubled(b"Csus4", 3, b"100001010000"),
-    Doubled(b"Csus4", 4, b"200001010000"),
-    Doubled(b"Csus4", 5, b"200001020000"),
-    Doubled(b"Csus4", 6, b"200002020000"),
-    Doubled(b"C6", 3, b""),
-    Doubled(b"C6", 4, b"100010010100"),
-    Doubled(b"C6", 5, b"200010010100"),
-    Doubled(b"C6", 6, b"200010020100"),
-    Doubled(b"Cm6", 3, b""),
-    Doubled(b"Cm6", 4, b"100100010100"),
-    Doubled(b"Cm6", 5, b"200100010100"),
-    Doubled(b"Cm6", 6, b"200100020100"),
-    Doubled(b"C7", 3, b""),
-    Doubled(b"C7", 4, b"100010010010"),
-    Doubled(b"C7", 5, b"200010010010"),
-    Doubled(b"C7", 6, b"200010020010"),
-    Doubled(b"Cmaj7", 3, b""),
-    Doubled(b"Cmaj7", 4, b"100010010001"),
-    Doubled(b"Cmaj7", 5, b"200010010001"),
-    Doubled(b"Cmaj7", 6, b"200010020001"),
-    Doubled(b"Cm7", 3, b""),
-    Doubled(b"Cm7", 4, b"100100010010"),
-    Doubled(b"Cm7", 5, b"200100010010"),
-    Doubled(b"Cm7", 6, b"200100020010"),
-    Doubled(b"Cm7b5", 3, b""),
-    Doubled(b"Cm7b5", 4, b"100100100010"),
-    Doubled(b"Cm7b5", 5, b"200100100010"),
-    Doubled(b"Cm7b5", 6, b"200100200010"),
-    Doubled(b"Cdim7", 3, b""),
-    Doubled(b"Cdim7", 4, b"100100100100"),
-    Doubled(b"Cdim7", 5, b"200100100100"),
-    Doubled(b"Cdim7", 6, b"200100200100"),
+    Doubled(b"C", 3, Ok(b"100010010000")),
+    Doubled(b"C", 4, Ok(b"200010010000")),
+    Doubled(b"C", 5, Ok(b"200010020000")),
+    Doubled(b"C", 6, Ok(b"200020020000")),
+    Doubled(b"Cm", 3, Ok(b"100100010000")),
+    Doubled(b"Cm", 4, Ok(b"200100010000")),
+    Doubled(b"Cm", 5, Ok(b"200100020000")),
+    Doubled(b"Cm", 6, Ok(b"200200020000")),
+    Doubled(b"Cdim", 3, Ok(b"100100100000")),
+    Doubled(b"Cdim", 4, Ok(b"200100100000")),
+    Doubled(b"Cdim", 5, Ok(b"200100200000")),
+    Doubled(b"Cdim", 6, Ok(b"200200200000")),
+    Doubled(b"Caug", 3, Ok(b"100010001000")),
+    Doubled(b"Caug", 4, Ok(b"200010001000")),
+    Doubled(b"Caug", 5, Ok(b"200010002000")),
+    Doubled(b"Caug", 6, Ok(b"200020002000")),
+    Doubled(b"Csus4", 3, Ok(b"100001010000")),
+    Doubled(b"Csus4", 4, Ok(b"200001010000")),
+    Doubled(b"Csus4", 5, Ok(b"200001020000")),
+    Doubled(b"Csus4", 6, Ok(b"200002020000")),
+    Doubled(b"C6", 3, Err(7)),
+    Doubled(b"C6", 4, Ok(b"100010010100")),
+    Doubled(b"C6", 5, Ok(b"200010010100")),
+    Doubled(b"C6", 6, Ok(b"200010020100")),
+    Doubled(b"Cm6", 3, Err(7)),
+    Doubled(b"Cm6", 4, Ok(b"100100010100")),
+    Doubled(b"Cm6", 5, Ok(b"200100010100")),
+    Doubled(b"Cm6", 6, Ok(b"200100020100")),
+    Doubled(b"C7", 3, Err(7)),
+    Doubled(b"C7", 4, Ok(b"100010010010")),
+    Doubled(b"C7", 5, Ok(b"200010010010")),
+    Doubled(b"C7", 6, Ok(b"200010020010")),
+    Doubled(b"Cmaj7", 3, Err(7)),
+    Doubled(b"Cmaj7", 4, Ok(b"100010010001")),
+    Doubled(b"Cmaj7", 5, Ok(b"200010010001")),
+    Doubled(b"Cmaj7", 6, Ok(b"200010020001")),
+    Doubled(b"Cm7", 3, Err(7)),
+    Doubled(b"Cm7", 4, Ok(b"100100010010")),
+    Doubled(b"Cm7", 5, Ok(b"200100010010")),
+    Doubled(b"Cm7", 6, Ok(b"200100020010")),
+    Doubled(b"Cm7b5", 3, Err(7)),
+    Doubled(b"Cm7b5", 4, Ok(b"100100100010")),
+    Doubled(b"Cm7b5", 5, Ok(b"200100100010")),
+    Doubled(b"Cm7b5", 6, Ok(b"200100200010")),
+    Doubled(b"Cdim7", 3, Err(7)),
+    Doubled(b"Cdim7", 4, Ok(b"100100100100")),
+    Doubled(b"Cdim7", 5, Ok(b"200100100100")),
+    Doubled(b"Cdim7", 6, Ok(b"200100200100")),
 ];
 
 // A symbol with its counts in three voices and its bass.
@@ -109,65 +109,55 @@ const REFUSED: [Refused; 27] = [
     Refused(b"C7/B", 4, 8),
 ];
 
+// The chord that a symbol names in so many voices, or the number of its refusal; none where there cannot be so many.
+fn read(symbol: &[u8], voices: usize) -> Option<Result<Chord, u8>> {
+    let voices = VoiceCount::new(voices)?;
+    Some(Chord::read(symbol, voices).map_err(|refusal| refusal.notice().number))
+}
+
 // The counts as digits.
 fn digits(chord: &Chord) -> [u8; 12] {
-    let mut digits = chord.counts();
-    for digit in digits.iter_mut() {
-        *digit = digit.saturating_add(b'0');
-    }
-    digits
+    chord.counts().map(|count| count.saturating_add(b'0'))
 }
 
-// Whether the symbol has these counts in so many voices; no digits where it is refused 7.
-fn agrees(symbol: &[u8], voices: usize, wanted: &[u8]) -> bool {
-    let Some(voices) = VoiceCount::new(voices) else {
-        return false;
-    };
-    match Chord::read(symbol, voices) {
-        Ok(chord) => digits(&chord).as_slice() == wanted,
-        Err(refusal) => wanted.is_empty() && refusal.notice().number == 7,
+// Whether the symbol has these counts in so many voices, or is refused with this number.
+fn agrees(symbol: &[u8], voices: usize, wanted: Result<&[u8], u8>) -> bool {
+    match (read(symbol, voices), wanted) {
+        (Some(Ok(chord)), Ok(counts)) => digits(&chord).as_slice() == counts,
+        (Some(Err(number)), Err(refused)) => number == refused,
+        _ => false,
     }
 }
 
-// The symbol's bass class, or 255.
-fn bass_of(symbol: &[u8], voices: usize) -> u8 {
-    let Some(voices) = VoiceCount::new(voices) else {
-        return 255;
-    };
-    match Chord::read(symbol, voices) {
-        Ok(chord) => chord.bass().index(),
-        Err(_) => 255,
-    }
+// The symbol's bass class in three voices.
+fn bass_of(symbol: &[u8]) -> Option<u8> {
+    let chord = read(symbol, 3)?.ok()?;
+    Some(chord.bass().index())
 }
 
-// The number that the symbol is refused with, or 0.
-fn refusal_of(symbol: &[u8], voices: usize) -> u8 {
-    let Some(voices) = VoiceCount::new(voices) else {
-        return 255;
-    };
-    match Chord::read(symbol, voices) {
-        Ok(_) => 0,
-        Err(refusal) => refusal.notice().number,
-    }
+// The number that the symbol is refused with.
+fn refusal_of(symbol: &[u8], voices: usize) -> Option<u8> {
+    read(symbol, voices)?.err()
 }
 
 #[test]
 fn every_quality_is_doubled_in_its_order(rt: HostRuntime) {
-    for Doubled(symbol, voices, counts) in DOUBLED.iter() {
-        assert!(rt; agrees(symbol, *voices, counts));
+    for Doubled(symbol, voices, counts) in &DOUBLED {
+        assert!(rt; agrees(symbol, *voices, *counts));
     }
 }
 
 #[test]
 fn every_root_and_bass_is_read(rt: HostRuntime) {
-    for Named(symbol, counts, bass) in NAMED.iter() {
-        assert!(rt; agrees(symbol, 3, counts) && bass_of(symbol, 3) == *bass);
+    for Named(symbol, counts, bass) in &NAMED {
+        assert!(rt; agrees(symbol, 3, Ok(*counts)));
+        assert_eq!(rt; bass_of(symbol), Some(*bass));
     }
 }
 
 #[test]
 fn every_bad_symbol_is_refused(rt: HostRuntime) {
-    for Refused(symbol, voices, number) in REFUSED.iter() {
-        assert_eq!(rt; refusal_of(symbol, *voices), *number);
+    for Refused(symbol, voices, number) in &REFUSED {
+        assert_eq!(rt; refusal_of(symbol, *voices), Some(*number));
     }
 }
