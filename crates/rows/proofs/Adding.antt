@@ -1,11 +1,11 @@
 -- The rows of several chords, added up chord by chord.
-use Rattle.std.proofs.Common.{◌≡◌, ℕ, ◌+◌, ◌-◌, ◌*◌, ◌<◌, ◌≤◌, Bool, true, false, cond, leb, List, [], ◌∷◌, ◌++◌, length, get_or, take, drop, Some, None, sym, refl, ap, ◌∙◌, subst, append_assoc, append-nil, mul-le-mul_right, add-mul, le-mul_of_pos_right, arith}
+use Rattle.std.proofs.Common.{◌≡◌, ℕ, ◌+◌, ◌*◌, ◌<◌, ◌≤◌, Bool, true, false, cond, leb, List, [], ◌∷◌, ◌++◌, length, get_or, take, drop, Some, None, sym, refl, ap, ◌∙◌, subst, append_assoc, append-nil, mul-le-mul_right, add-mul, arith}
 use Rattle.harmony.proofs.Passing.{pass_at}
 use Rattle.harmony.specs.declared.chord.Chord.{Chord}
 use Rattle.harmony.specs.declared.refusal.Refusal.TheVariants.{NoRow, TooManyRows}
 use Rattle.harmony.specs.declared.voices.Voices.{Voices}
 use Rattle.rows.specs.Tables.{all_few, all_some, refused_first, rows_for, rows_of_each, together}
-use Rattle.std.proofs.lemmas.List.{length-append, map-append, take_all, take-append-drop, take_more}
+use Rattle.std.proofs.lemmas.List.{length-append, map-append, take-append-drop, take_more}
 use Rattle.std.proofs.lemmas.Bool.{leb-true}
 
 -- where none is refused, each has a row and none has too many
@@ -46,9 +46,6 @@ module _ (voices : Voices) (chords : List Chord) where
   pub added_more : (i : ℕ) (c : Chord) → i < length chords → c ≡ get_or chords i c → (total rows : ℕ) → total ≡ length (upto i) → rows ≡ length (rows_for voices c) → total + rows ≡ length (upto (i + 1))
   added_more i c h is total rows et er = omega (arith, ap length (upto_more i c h is), length-append (upto i) (rows_for voices c))
 
-  pub upto_all : (i : ℕ) → length chords ≤ i → upto i ≡ together (rows_of_each voices chords)
-  upto_all i h = ap (λ cs. together (rows_of_each voices cs)) (take_all i chords h)
-
   pub upto_within : (i : ℕ) → length (upto i) ≤ length (together (rows_of_each voices chords))
   upto_within i =
       let whole = ap length
@@ -57,13 +54,6 @@ module _ (voices : Voices) (chords : List Chord) where
       ∙ together_append (rows_of_each voices (take i chords)) (rows_of_each voices (drop i chords))) in
       omega (arith, whole, length-append (upto i) (together (rows_of_each voices (drop i chords))))
 
--- bytes taken from those that are free
-pub add_fits : (total rows width free room : ℕ) → 3 ≤ width → rows * width ≤ free → total * width + free ≡ room → total + rows ≤ room
-add_fits total rows width free room wide h inv =
-    omega (arith, add-mul total rows width, le-mul_of_pos_right {m = width} (total + rows) (omega arith))
-
-pub add_more : (total rows width free room : ℕ) → rows * width ≤ free → total * width + free ≡ room → (total + rows) * width + (free - rows * width) ≡ room
-add_more total rows width free room h inv = omega (arith, add-mul total rows width)
-
+-- rows that need more bytes than are free
 pub add_past : (total rows width free room all : ℕ) → free < rows * width → total * width + free ≡ room → total + rows ≤ all → room < all * width
 add_past total rows width free room all h inv le = omega (arith, add-mul total rows width, mul-le-mul_right width le)

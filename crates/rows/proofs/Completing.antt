@@ -1,21 +1,15 @@
 -- A search that goes through the pitches of a voice one after the other.
-use Rattle.std.proofs.Common.{◌≡◌, ℕ, zero, suc, ◌+◌, ◌-◌, ◌<◌, ◌≤◌, true, false, cond, List, [], ◌∷◌, ◌++◌, map, length, get_or, drop, set, Ok, sym, ap, ◌∙◌, append_assoc, append-nil, add-zero, zero-add, arith}
+use Rattle.std.proofs.Common.{◌≡◌, ℕ, zero, suc, ◌+◌, ◌-◌, ◌<◌, ◌≤◌, true, false, cond, List, [], ◌∷◌, ◌++◌, map, length, get_or, drop, Ok, sym, ap, ◌∙◌, append_assoc, append-nil, add-zero, zero-add, arith}
 use Rattle.harmony.specs.Pitches.{class}
-use Rattle.harmony.specs.declared.pitch.Pitch.{Pitch}
 use Rattle.harmony.specs.Ranges.{bounds}
 use Rattle.harmony.specs.declared.range.Bounds.{Bounds}
 use Rattle.harmony.specs.declared.range.Range.{Range}
-use Rattle.rows.specs.Arrangements.{semitones_of}
 use Rattle.rows.specs.Enumeration.{Footing, In, above, less, may, pitches}
 use Rattle.rows.specs.Growth.{Completed, grown, laid, placed}
 use Rattle.rows.proofs.Members.{in_counting, in_joined}
-use Rattle.std.proofs.lemmas.List.{at_drop_more, drop_all, get_or-map, length-append, length-map, map_push, take_more_set}
+use Rattle.std.proofs.lemmas.List.{at_drop_more, drop_all, get_or-map, length-append, length-map}
 use Rattle.std.proofs.lemmas.Bool.{cond-true, cond-false}
 use Rattle.std.specs.List.{range_with_len, flat_map}
-
--- one pitch more is chosen
-pub chosen_more : (ps : List Pitch) (i : ℕ) (p : Pitch) → i < length ps → semitones_of (i + 1) (set ps i p) ≡ semitones_of i ps ++ p.semitones ∷ []
-chosen_more ps i p h = ap (map (λ q. q.semitones)) (take_more_set ps i p h) ∙ map_push (λ q. q.semitones) _ p
 
 laid_append : (n : ℕ) (table : List ℕ) (k : ℕ) (xs ys : List (List ℕ)) → laid n table k (xs ++ ys) ≡ laid n (laid n table k xs) (k + length xs) ys
 laid_append n table k [] ys = ap (λ m. laid n table m ys) (sym (add-zero k))
@@ -40,9 +34,6 @@ module _ (g : ℕ → List (List ℕ)) where
       ap (λ k. flat_map g (range_with_len a k)) e ∙ ap (λ rest. g a ++ rest) (split (a + 1) m n)
       ∙ sym (append_assoc (g a) (flat_map g (range_with_len (a + 1) m)) (flat_map g (range_with_len (a + 1 + m) n)))
       ∙ ap (λ b. (g a ++ flat_map g (range_with_len (a + 1) m)) ++ flat_map g (range_with_len b n)) f
-
-  pub below_none : (low : ℕ) → below low low ≡ []
-  below_none low = let e : low - low ≡ 0 = omega arith in ap (λ k. flat_map g (range_with_len low k)) e
 
   pub below_more : (low s : ℕ) → low ≤ s → below low (s + 1) ≡ below low s ++ g s
   below_more low s h =

@@ -7,5 +7,4 @@ pub mod Growing
 pub mod Meaning
 pub mod Members
 pub mod Order
-pub mod Placing
 pub mod Written

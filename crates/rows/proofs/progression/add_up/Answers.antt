@@ -1,9 +1,9 @@
 use Rattle.std.proofs.Common.{◌≡◌, ◌+◌, ◌*◌, ◌<◌, ◌≤◌, leb, length, Ok, Err, sym, ap, ◌∙◌, subst, mul-le-mul_right, arith}
 use Rattle.rows.specs.Tables.{rows_of_each, together}
-use Rattle.rows.proofs.Adding.{add_fits, add_more, add_past, added_more, few_each, upto_all, upto_within}
+use Rattle.rows.proofs.Adding.{add_past, added_more, few_each, upto_within}
 use Rattle.harmony.specs.declared.refusal.Refusal.TheVariants.{ShortRowTable}
 use Rattle.rows.proofs.progression.add_up.Goals as goal
-use Rattle.std.proofs.lemmas.Bool.{cond-false, cond-true, le-leb, lt-leb}
+use Rattle.std.proofs.lemmas.Bool.{cond-false, lt-leb}
 
 pub rows_of-rows-requires : goal.rows_of-rows-requires
 rows_of-rows-requires c =
@@ -22,36 +22,6 @@ returns-then-free-rows-clause-answer c =
     (subst (λ w. c.args.room < all * w) same
     (add_past c.loop-chord.total c.rows_of-rows.result c.number-width.result c.loop-chord.free c.args.room all c.if-free-rows.true c.loop-chord.invariant.0
     (omega (arith, more, upto_within voices chords (c.loop-chord.chord-index + 1)))))))
-
-pub overflow_add-total : goal.overflow_add-total
-overflow_add-total c =
-    let same : c.number-width.result ≡ c.args.voices.now.count.number = c.number-width.ensures ∙ ap (λ v. v.number) c.count.ensures in
-    let fits = add_fits c.loop-chord.total c.rows_of-rows.result c.number-width.result c.loop-chord.free c.args.room (omega (arith, same, c.args.voices.now.count.fewest)) c.if-free-rows.false c.loop-chord.invariant.0 in
-    omega (arith, fits, c.ranges.room)
-
-pub loop-chord-preserved : goal.loop-chord-preserved
-loop-chord-preserved c = (
-  add_more c.loop-chord.total c.rows_of-rows.result c.number-width.result c.loop-chord.free c.args.room c.if-free-rows.false c.loop-chord.invariant.0,
-  added_more c.args.voices.now c.args.chords.now c.loop-chord.chord-index c.chord-item.result (omega arith) c.chord-item.is c.loop-chord.total c.rows_of-rows.result c.loop-chord.invariant.1 c.rows_of-rows.ensures,
-)
-
-pub returns : goal.returns
-returns c =
-    let voices = c.args.voices.now in
-    let chords = c.args.chords.now in
-    let all = length (together (rows_of_each voices chords)) in
-    let same : c.number-width.result ≡ voices.count.number = c.number-width.ensures ∙ ap (λ v. v.number) c.count.ensures in
-    let whole : c.loop-chord.total ≡ all = c.loop-chord.invariant.1 ∙ ap length (upto_all voices chords c.loop-chord.chord-index (omega arith)) in
-    let room : c.loop-chord.total * c.number-width.result ≤ c.args.room = omega arith in
-    let fits : c.loop-chord.total * voices.count.number ≤ c.args.room = subst (λ w. c.loop-chord.total * w ≤ c.args.room) same room in
-    record {
-      answer =
-          ap Ok whole
-          ∙ sym
-          (cond-true (leb (all * voices.count.number) c.args.room) (Ok all) (Err ShortRowTable)
-          (le-leb (all * voices.count.number) c.args.room (subst (λ k. k * voices.count.number ≤ c.args.room) whole fits)));
-      fits = fits;
-    }
 
 pub overflow_mul-rows : goal.overflow_mul-rows
 overflow_mul-rows c =

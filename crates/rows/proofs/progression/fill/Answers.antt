@@ -1,6 +1,6 @@
 use Rattle.std.proofs.Common.{◌≡◌, ◌+◌, ◌*◌, ◌++◌, length, drop, sym, refl, ap, ◌∙◌, arith}
-use Rattle.rows.specs.Tables.{flat, rows_for, rows_of_each, together}
-use Rattle.rows.proofs.Adding.{upto, upto_all}
+use Rattle.rows.specs.Tables.{flat, rows_for}
+use Rattle.rows.proofs.Adding.{upto}
 use Rattle.rows.proofs.Gapless.{filled_more}
 use Rattle.rows.proofs.progression.fill.Goals as goal
 
@@ -24,12 +24,3 @@ loop-chord-preserved c =
       more.table ∙ ap (λ k. flat (upto voices chords (c.loop-chord.chord-index + 1)) ++ drop k c.args.table.now) (sym next),
       omega (arith, next, more.within),
     )
-
-pub returns : goal.returns
-returns c =
-    let voices = c.args.voices.now in
-    let chords = c.args.chords.now in
-    let all = upto_all voices chords c.loop-chord.chord-index (omega arith) in
-    let end : c.loop-chord.from ≡ c.args.end = c.loop-chord.invariant.0 ∙ ap (λ rs. length rs * voices.count.number) all ∙ sym c.requires.whole in
-    c.loop-chord.invariant.1 ∙ ap (λ rs. flat rs ++ drop c.loop-chord.from c.args.table.now) all
-    ∙ ap (λ k. flat (together (rows_of_each voices chords)) ++ drop k c.args.table.now) end
