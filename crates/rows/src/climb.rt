@@ -15,14 +15,14 @@ pub(crate) enum Footing {
     Above(Pitch),
 }
 
+// The pitches sung so far, and what of the chord's counts is left to sing.
+// An array with its number beside it: a climb is copied at each step, and an `ArrayVec` is not `Copy`.
 #[derive(Clone, Copy)]
 pub(crate) struct Climb {
     pub(crate) pitches: [Pitch; 6],
     pub(crate) voices: usize,
     pub(crate) footing: Footing,
     pub(crate) left: [u8; 12],
-    ghost full: { length pitches ≡ 6 },
-    ghost twelve: { length left ≡ 12 },
 }
 
 impl Footing {

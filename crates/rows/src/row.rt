@@ -12,12 +12,12 @@ use harmony::range::Range;
 use harmony::refusal::Refusal;
 
 // The pitches are as many as the ranges; what stands behind them means nothing.
+// An array and no `ArrayVec`, which is not `Copy`: a row is.
 #[derive(Clone, Copy)]
 pub struct Row<'a> {
     pub(crate) ranges: &'a [Range],
     pub(crate) chord: &'a Chord,
     pub(crate) pitches: [Pitch; 6],
-    ghost full: { length pitches ≡ 6 },
     ghost few: { length ranges.now ≤ 6 },
     ghost ranged: { inside (map bounds ranges.now) (semitones_of (length ranges.now) pitches) ≡ true },
     ghost ascending: { ascends (semitones_of (length ranges.now) pitches) ≡ true },

@@ -11,4 +11,4 @@ loop-voice-preserved c =
     let here = sym (c.pitch-item.is ∙ get_or-take (length row.ranges.now) row.pitches i c.pitch-item.result (omega arith)) in
     rw c.semitones.ensures
     (subst (λ p. set c.loop-voice.part i p.semitones ≡ semitones_of (i + 1) row.pitches ++ drop (i + 1) c.args.part.now) here
-    (written_more (λ p. p.semitones) row.pitches c.loop-voice.part c.args.part.now i c.pitch-item.result (omega (arith, row.full, row.few)) (omega arith) c.loop-voice.invariant))
+    (written_more (λ p. p.semitones) row.pitches c.loop-voice.part c.args.part.now i c.pitch-item.result (omega (arith, row.few)) (omega arith) c.loop-voice.invariant))
