@@ -1,5 +1,5 @@
 // The line of ranges that stands before the symbols.
-ghost use Rattle.std.specs.Prelude.{◌≡◌, drop, Ok, Err, MatchResult};
+ghost use Rattle.std.specs.Prelude.{◌≡◌, Ok, Err, MatchResult};
 ghost use Rattle.harmony.specs.VoiceRanges.{ranges_of};
 ghost use Rattle.rowlist.specs.Headings.{opening};
 
@@ -8,16 +8,16 @@ use harmony::voices::Voices;
 use text::limit::CHART_LIMIT;
 use text::range_line::range_line;
 
-// The voices, and the offset of the first byte behind the line.
+// The voices, and the body of the chart: the bytes behind the line.
 #[derive(Clone, Copy)]
-pub struct Heading {
+pub struct Heading<'a> {
     pub voices: Voices,
-    pub body: usize,
+    pub body: &'a [u8],
 }
 
 // The heading of a chart, or why it is refused.
-pub fn read_heading(chart: &[u8]) -> Result<Heading, Refusal>
-    ensures { MatchResult result (λ h. opening chart.now ≡ Ok (record { ranges = ranges_of h.voices; rest = drop h.body chart.now })) (λ e. opening chart.now ≡ Err e) }
+pub fn read_heading(chart: &[u8]) -> Result<Heading<'_>, Refusal>
+    ensures { MatchResult result (λ h. opening chart.now ≡ Ok (record { ranges = ranges_of h.voices; rest = h.body.now })) (λ e. opening chart.now ≡ Err e) }
 {
     if chart.len() > CHART_LIMIT {
         return Err(Refusal::LongChart);
@@ -26,6 +26,6 @@ pub fn read_heading(chart: &[u8]) -> Result<Heading, Refusal>
     let voices = line.voices()?;
     Ok(Heading {
         voices,
-        body: line.end(),
+        body: &chart[line.end()..],
     })
 }

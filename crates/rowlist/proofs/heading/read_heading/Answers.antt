@@ -1,4 +1,5 @@
-use Rattle.std.proofs.Common.{drop, ap, ◌∙◌, arith}
+use Rattle.std.proofs.Common.{◌≡◌, ◌-◌, length, take, drop, ap, ◌∙◌, length-drop, arith}
+use Rattle.std.proofs.lemmas.List.{take_all}
 use Rattle.rowlist.specs.Headings.{with_voices}
 use Rattle.rowlist.proofs.Opened.{opened}
 use Rattle.rowlist.proofs.heading.read_heading.Goals as goal
@@ -17,6 +18,7 @@ pub returns : goal.returns
 returns c =
     let chart = c.args.chart.now in
     let line = c.in_ok-line.line in
-    rw c.end.ensures
+    let all : take (length chart - line.end) (drop line.end chart) ≡ drop line.end chart = take_all _ _ (omega (arith, length-drop line.end chart)) in
+    rw (c.end.ensures, all)
     (opened chart line.count line.first line.end c.in_ok-line.ensures.told (omega arith)
     ∙ ap (λ vs. with_voices vs (drop line.end chart)) c.in_ok-voices.ensures)
