@@ -9,16 +9,14 @@ behind_word (w ∷ ws) bs = rw (eq-eqb w w refl) (behind_word ws bs)
 
 pub word_before : (ws bs cs : List ℕ) → behind ws bs ≡ Some cs → bs ≡ ws ++ cs
 word_before [] bs cs e = cc
-word_before (w ∷ ws) [] cs e = absurd (let z : ◌≡◌ {A = ℕ} 0 1 = cc in omega arith)
+word_before (w ∷ ws) [] cs e = cc
 word_before (w ∷ ws) (b ∷ bs) cs e =
     elim (cases_Bool (eqb b w)) [
       | inl f ↦
           let rest : bs ≡ ws ++ cs = word_before ws bs cs (rw f at e) in
           let first : b ≡ w = eqb-true b w f in
           cc
-      | inr f ↦
-          let none : None ≡ Some cs = rw f at e in
-          absurd (let z : ◌≡◌ {A = ℕ} 0 1 = cc in omega arith)
+      | inr f ↦ cc (rw f at e)
     ]
 
 -- what `strip_prefix` gives are the bytes behind the word
