@@ -15,3 +15,28 @@ pub fn read_front(alloc: Global, input: impl Read + Drop, most: usize) -> io::Re
     }
     Ok(front)
 }
+
+#[cfg(test)]
+mod tests {
+    use super::*;
+    use std::test::Fail;
+
+    #[test]
+    fn no_more_is_read_than_asked_for(rt: HostRuntime) -> Result<(), Fail> {
+        let input: &[u8] = b"voices\n";
+        assert_eq!(rt;
+            read_front(rt.alloc(), input, 9)?.as_slice(),
+            b"voices\n".as_slice()
+        );
+        assert_eq!(rt;
+            read_front(rt.alloc(), input, 7)?.as_slice(),
+            b"voices\n".as_slice()
+        );
+        assert_eq!(rt;
+            read_front(rt.alloc(), input, 6)?.as_slice(),
+            b"voices".as_slice()
+        );
+        assert_eq!(rt; read_front(rt.alloc(), input, 0)?.len(), 0);
+        Ok(())
+    }
+}
