@@ -1,8 +1,8 @@
 -- The tokens of a text, taken from its front one by one.
-use Rattle.std.proofs.Common.{◌≡◌, ℕ, suc, ◌+◌, ◌<◌, ◌≤◌, min, true, false, not, eqb, List, [], ◌∷◌, length, get_or, take, drop, sym, refl, ap, ◌∙◌, inl, inr, add-zero, one-add, length-drop, get_or-drop, arith}
+use Rattle.std.proofs.Common.{◌≡◌, ℕ, suc, ◌+◌, ◌<◌, ◌≤◌, true, false, not, eqb, List, [], ◌∷◌, length, get_or, take, drop, sym, refl, ap, ◌∙◌, inl, inr, add-zero, one-add, length-drop, get_or-drop, arith}
 use Rattle.std.proofs.lemmas.List.{at_drop_all, drop-drop}
 use Rattle.std.proofs.lemmas.List.Sums.{prefix_len_stops}
-use Rattle.std.proofs.lemmas.Bool.{and_cases, and_from, and_parts, both_ways, cases_Bool, cases_lt, eq-eqb, ne_eqb, not-false, not_from_false, not-true}
+use Rattle.std.proofs.lemmas.Bool.{and_cases, and_from, and_parts, both_ways, cases_Bool, eq-eqb, ne_eqb, not-false, not_from_false, not-true}
 use Rattle.std.specs.List.{prefix_len}
 use Rattle.text.specs.Tokens.{Piece, bar, symbol, blank, in_symbol, joined_to, left_from, tokens}
 

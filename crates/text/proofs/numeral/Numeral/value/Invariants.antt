@@ -1,4 +1,4 @@
-use Rattle.std.proofs.Common.{◌≡◌, ◌+◌, ◌*◌, ◌^◌, ◌<◌, drop, length, Some}
+use Rattle.std.proofs.Common.{◌≡◌, ◌+◌, ◌*◌, ◌^◌, ◌<◌, drop, Some}
 use Rattle.text.specs.Numbers.{extended, number}
 use Rattle.text.proofs.numeral.Numeral.value.Given as goal
 
