@@ -107,25 +107,19 @@ module _ (text whole rest : List ℕ) (pos n : ℕ) (blanks : n ≡ prefix_len b
         let first : get_or whole n 0 ≡ b = rw (← add-zero n, ← get_or-drop) (ap (λ cs. get_or cs 0 0) there) in
         rw (← blanks, first) at (prefix_len_stops blank whole 0 more)
 
-  next_bar_at : (r : List ℕ) → rest ≡ r → 1 ≤ length r → get_or r 0 0 ≡ 124 → left_from text pos ≡ bar (pos + n) ∷ left_from text (pos + n + 1)
-  next_bar_at [] here some is = absurd (omega arith)
-  next_bar_at (b ∷ bs) here some is = past ∙ rw (here, is) (ap (λ cs. bar (pos + n) ∷ tokens (pos + n + 1) cs) (behind b bs here))
+  pub next_bar : (r : List ℕ) → rest ≡ r → 1 ≤ length r → get_or r 0 0 ≡ 124 → left_from text pos ≡ bar (pos + n) ∷ left_from text (pos + n + 1)
+  next_bar [] here some is = absurd (omega arith)
+  next_bar (b ∷ bs) here some is = past ∙ rw (here, is) (ap (λ cs. bar (pos + n) ∷ tokens (pos + n + 1) cs) (behind b bs here))
 
-  pub next_bar : 1 ≤ length rest → get_or rest 0 0 ≡ 124 → left_from text pos ≡ bar (pos + n) ∷ left_from text (pos + n + 1)
-  next_bar = next_bar_at rest refl
-
-  next_symbol_at : (r : List ℕ) (k : ℕ) → rest ≡ r → 1 ≤ length r → (get_or r 0 0 ≡ 124 → ⊥) → k ≡ prefix_len in_symbol r → left_from text pos ≡ symbol (take k r) (pos + n) ∷ left_from text (pos + n + k)
-  next_symbol_at [] k here some other run = absurd (omega arith)
-  next_symbol_at (b ∷ bs) k here some other run =
+  pub next_symbol : (r : List ℕ) (k : ℕ) → rest ≡ r → 1 ≤ length r → (get_or r 0 0 ≡ 124 → ⊥) → k ≡ prefix_len in_symbol r → left_from text pos ≡ symbol (take k r) (pos + n) ∷ left_from text (pos + n + k)
+  next_symbol [] k here some other run = absurd (omega arith)
+  next_symbol (b ∷ bs) k here some other run =
       let at = pos + n in
       let e : in_symbol b ≡ true = and_from (not (blank b)) (not (eqb b 124)) (not_from_false (blank b) (full b bs here)) (not_from_false (eqb b 124) (ne_eqb b 124 other)) in
       let m = prefix_len in_symbol bs in
       let long : k ≡ suc m = run ∙ rw (e, one-add m) in
       let p : at + 1 + m ≡ at + suc m = omega arith in
       past ∙ rw (here, long, symbol_byte at b bs e, joined_run at b bs, ← p, ← drop-drop m (at + 1) text, ← behind b bs here)
-
-  pub next_symbol : (k : ℕ) → 1 ≤ length rest → (get_or rest 0 0 ≡ 124 → ⊥) → k ≡ prefix_len in_symbol rest → left_from text pos ≡ symbol (take k rest) (pos + n) ∷ left_from text (pos + n + k)
-  next_symbol k = next_symbol_at rest k refl
 
 -- where a token is taken, fewer are left
 pub fewer : (ps qs : List Piece) (p : Piece) → ps ≡ p ∷ qs → length qs < length ps

@@ -15,7 +15,7 @@ returns-in-empty-clause-steps c =
     }
 
 bar_left : (c : In-124) → left_from c.args.self.now.text.now c.args.self.now.pos ≡ bar (c.args.self.now.pos + c.run_len.result) ∷ left_from c.args.self.now.text.now (c.args.self.now.pos + c.run_len.result + 1)
-bar_left c = next_bar _ _ _ _ _ (c.run_len.ensures.run blank (λ b r h. search rules)) c.rest.ensures c.rest-rest.ensures (omega arith) (search rules)
+bar_left c = next_bar _ _ _ _ _ (c.run_len.ensures.run blank (λ b r h. search rules)) c.rest.ensures c.rest-rest.ensures _ refl (omega arith) (search rules)
 
 pub returns-in-124-clause-steps : goal.returns-in-124-clause-steps
 returns-in-124-clause-steps c = record { text = refl; yields = bar_left (goal.at.returns-in-124-clause-steps c).In-124; ended = tt }
@@ -27,7 +27,7 @@ returns-in-124-clause-goes c =
 
 symbol_left : (c : After-run_len-len) → left_from c.args.self.now.text.now c.args.self.now.pos ≡ symbol (take c.run_len-len.result c.rest-rest.result.now) (c.args.self.now.pos + c.run_len.result) ∷ left_from c.args.self.now.text.now (c.args.self.now.pos + c.run_len.result + c.run_len-len.result)
 symbol_left c =
-    next_symbol _ _ _ _ _ (c.run_len.ensures.run blank (λ b r h. search rules)) c.rest.ensures c.rest-rest.ensures c.run_len-len.result (omega arith) (search rules) (c.run_len-len.ensures.run in_symbol (λ b r h. search rules))
+    next_symbol _ _ _ _ _ (c.run_len.ensures.run blank (λ b r h. search rules)) c.rest.ensures c.rest-rest.ensures _ c.run_len-len.result refl (omega arith) (search rules) (c.run_len-len.ensures.run in_symbol (λ b r h. search rules))
 
 pub returns-in_default-clause-steps : goal.returns-in_default-clause-steps
 returns-in_default-clause-steps c =
