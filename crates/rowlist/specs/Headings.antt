@@ -1,9 +1,9 @@
 -- What stands before the symbols: a line of ranges.
 --
 -- Opening   the ranges of the voices, and the bytes behind the line
--- opened    what a heading of the code says of its chart
+-- opened    what a heading of the code says
 -- opening   the opening of a chart, or why it is refused: its length first, then the line's form, then the ranges
-use Rattle.std.specs.Prelude.{ℕ, cond, List, drop, length, Some, None, Ok, Err, Option, Result, nat_le}
+use Rattle.std.specs.Prelude.{ℕ, cond, List, length, Some, None, Ok, Err, Option, Result, nat_le}
 use Rattle.harmony.specs.Ranges.{voices_of}
 use Rattle.harmony.specs.declared.range.Bounds.{Bounds}
 use Rattle.harmony.specs.declared.refusal.Refusal.{Refusal}
@@ -17,8 +17,8 @@ pub record Opening : Type 0 where
   pub ranges : List Bounds
   pub rest : List ℕ
 
-abbrev pub opened : List ℕ → Heading → Opening
-opened chart h = record { ranges = ranges_of h.voices; rest = drop h.body chart }
+abbrev pub opened : Heading → Opening
+opened h = record { ranges = ranges_of h.voices; rest = h.body.now }
 
 abbrev pub with_voices : Result (List Bounds) Refusal → List ℕ → Result Opening Refusal
 with_voices (Ok vs) rest = Ok (record { ranges = vs; rest = rest })

@@ -8,16 +8,16 @@ use harmony::voices::Voices;
 use text::limit::CHART_LIMIT;
 use text::range_line::range_line;
 
-// The voices, and the offset of the first byte behind the line.
+// The voices, and the body of the chart: the bytes behind the line.
 #[derive(Clone, Copy)]
-pub struct Heading {
+pub struct Heading<'a> {
     pub voices: Voices,
-    pub body: usize,
+    pub body: &'a [u8],
 }
 
 // The heading of a chart, or why it is refused.
-pub fn read_heading(chart: &[u8]) -> Result<Heading, Refusal>
-    ensures { result_map (opened chart.now) result ≡ opening chart.now }
+pub fn read_heading(chart: &[u8]) -> Result<Heading<'_>, Refusal>
+    ensures { result_map opened result ≡ opening chart.now }
 {
     if chart.len() > CHART_LIMIT {
         return Err(Refusal::LongChart);
@@ -26,6 +26,6 @@ pub fn read_heading(chart: &[u8]) -> Result<Heading, Refusal>
     let voices = line.voices()?;
     Ok(Heading {
         voices,
-        body: line.end(),
+        body: &chart[line.end()..],
     })
 }

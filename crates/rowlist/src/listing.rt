@@ -25,11 +25,11 @@ pub fn find_rows(voices: &Voices, symbol: &[u8], table: &mut [u8]) -> Result<usi
 pub fn add_row(page: &mut String, row: &[u8]) -> io::Result<()>
     ensures { OnOk result (string_bytes page.new ≡ string_bytes page.old ++ row_line row.now) }
 {
-    for (voice, pitch) in row.iter().enumerate() {
-        if voice > 0 {
-            page.push(' ')?;
+    if let Some((lowest, others)) = row.split_first() {
+        write!(page, "{lowest}")?;
+        for pitch in others {
+            write!(page, " {pitch}")?;
         }
-        write!(page, "{pitch}")?;
     }
     page.push('\n')?;
     Ok(())

@@ -6,10 +6,10 @@ mod input;
 mod listing;
 
 use harmony::voices::Voices;
-use heading::read_heading;
-use input::fill;
+use heading::{Heading, read_heading};
+use input::read_front;
 use listing::{add_row, find_rows};
-use std::fmt::Write as Text;
+use std::fmt::Write as _;
 use std::io;
 use std::io::Write;
 use text::limit::CHART_LIMIT;
@@ -23,46 +23,38 @@ const MOST_READ: usize = CHART_LIMIT + 1;
 const MOST_BYTES: usize = 1536;
 
 // Prints a symbol with its number of rows and each row, or with its refusal.
-fn list(rt: &HostRuntime, voices: &Voices, symbol: &[u8]) -> io::Result<()> {
+fn list(rt: &(impl Print + AllocGlobal), voices: &Voices, symbol: &[u8]) -> io::Result<()> {
+    // the rows are written to memory that is lent: the libraries have no heap
     let mut table = [0; MOST_BYTES];
     let mut page = String::new(rt.alloc());
     match find_rows(voices, symbol, &mut table) {
         Ok(rows) => {
-            write!(page, " {rows}\n")?;
+            writeln!(page, " {rows}")?;
             for row in table.chunks(voices.count().number()).take(rows) {
                 add_row(&mut page, row)?;
             }
         }
-        Err(refusal) => {
-            let number = refusal.notice().number;
-            write!(page, " refused {number}\n")?;
-        }
+        Err(refusal) => writeln!(page, " refused {}", refusal.notice().number)?,
     }
-    let mut out = rt.stdout();
+    let mut out = io::writer(rt);
     out.write_all(symbol)?;
     out.write_all(page.as_bytes())
 }
 
 // Lists the rows of each symbol of a chart's body.
-fn list_body(rt: &HostRuntime, voices: &Voices, chart: &[u8], from: usize) -> io::Result<()> {
-    let mut reader = Reader::new(chart, from);
-    while let Some(token) = reader.next() {
+fn list_body(rt: &(impl Print + AllocGlobal), heading: &Heading) -> io::Result<()> {
+    for token in Reader::new(heading.body, 0) {
         if let Token::Symbol { bytes, .. } = token {
-            list(rt, voices, bytes)?;
+            list(rt, &heading.voices, bytes)?;
         }
     }
     Ok(())
 }
 
 fn main(rt: HostRuntime) -> io::Result<()> {
-    let mut buffer = [0; MOST_READ];
-    let length = fill(&mut rt.stdin(), &mut buffer)?;
-    let chart = &buffer[0..length];
-    match read_heading(chart) {
-        Ok(heading) => list_body(&rt, &heading.voices, chart, heading.body),
-        Err(refusal) => {
-            let number = refusal.notice().number;
-            println!(rt; "refused {number} at 0")
-        }
+    let chart = read_front(rt.alloc(), rt.stdin(), MOST_READ)?;
+    match read_heading(&chart) {
+        Ok(heading) => list_body(&rt, &heading),
+        Err(refusal) => println!(rt; "refused {} at 0", refusal.notice().number),
     }
 }

@@ -46,12 +46,6 @@ module _ (ds : List ℕ) (b : ℕ) (fits : (digit b && leb (length ds) 2) ≡ tr
 whole : (d : ℕ) (ds : List ℕ) → Few (d ∷ ds) → Digits (d ∷ ds)
 whole d ds w = record { some = omega arith; few = w.few; decimal = w.decimal }
 
-some_is : {X : Type 0} {x y : X} → Some x ≡ Some y → x ≡ y
-some_is e = cc
-
-none_is : {X : Type 0} {x : X} → None ≡ Some x → ⊥
-none_is e = let z : ◌≡◌ {A = ℕ} 0 1 = cc in omega arith
-
 module _ (line : Line) where
   -- the rest of the line is ranges in writing, behind the ranges read so far
   record Found (rs : List Bounds) (bs : List ℕ) : Type 0 where
@@ -83,7 +77,7 @@ module _ (line : Line) where
     found_parted closed h =
         elim (cases_Bool (eqb b 10)) [
           | inl e ↦
-              let is = some_is (rw e at h) in
+              let is : record { ranges = added rs closed; rest = bs } ≡ line = cc (rw e at h) in
               let feed = eqb-true b 10 e in
               record {
                 ranges = [];
@@ -95,7 +89,7 @@ module _ (line : Line) where
                 let none : Few [] = record { few = omega arith; decimal = tt } in
                 let space = eqb-true b 32 f in
                 found_at _ (32 ∷ bs) (b ∷ bs) (ap (λ c. c ∷ bs) (sym space)) (law (added rs closed) (in_low []) (32 ∷ []) (none, refl) (rw (e, f) at h))
-            | inr f ↦ absurd (none_is (rw (e, f) at h))
+            | inr f ↦ cc (rw (e, f) at h)
           ]
         ]
 
@@ -108,12 +102,12 @@ module _ (line : Line) where
               found_at rs _ _ (ap (λ cs. 32 ∷ cs) (figures_more ds b e few bs)) on
           | inr e ↦ elim (cases_Bool (eqb b 45)) [
             | inl f ↦ hyphened ds few (eqb-true b 45 f) (rw (e, f) at h)
-            | inr f ↦ absurd (none_is (rw (e, f) at h))
+            | inr f ↦ cc (rw (e, f) at h)
           ]
         ]
       where
         hyphened : (es : List ℕ) → Few es → b ≡ 45 → stepped (scan bs) rs bs (hyphen (number es)) ≡ Some line → Found rs (32 ∷ (figures es ++ b ∷ bs))
-        hyphened [] w is g = absurd (none_is g)
+        hyphened [] w is g = cc g
         hyphened (e ∷ es) w is g =
             let none : Few [] = record { few = omega arith; decimal = tt } in
             let on = law rs (in_high (value (e ∷ es)) []) _ (e ∷ es, whole e es w, refl, none, refl) g in
@@ -132,14 +126,14 @@ module _ (line : Line) where
         ]
       where
         closed : (es : List ℕ) → Few es → stepped (scan bs) rs bs (closing (value ls) (number es) b) ≡ Some line → Found rs (32 ∷ (figures ls ++ 45 ∷ (figures es ++ b ∷ bs)))
-        closed [] w g = absurd (none_is g)
+        closed [] w g = cc g
         closed (e ∷ es) w g =
             let range : Written = record { low = ls; high = e ∷ es; low_digits = low; high_digits = whole e es w } in
             let bytes = append_assoc (figures ls) (45 ∷ figures (e ∷ es)) (b ∷ bs) in
             found_at rs _ _ (ap (λ cs. 32 ∷ cs) bytes) (found_more range rs (b ∷ bs) (found_parted (Some (bounds_of range)) g))
 
   found : (bs : List ℕ) → Law bs
-  found [] rs p front at h = absurd (none_is h)
+  found [] rs p front at h = cc h
   found (b ∷ bs) rs between front at h = found_at rs _ _ (ap (λ cs. cs ++ b ∷ bs) (sym at)) (found_parted b bs (found bs) rs None h)
   found (b ∷ bs) rs (in_low ds) front at h =
       found_at rs _ _ (ap (λ cs. cs ++ b ∷ bs) (sym at.1)) (found_low b bs (found bs) rs ds at.0 h)
@@ -153,7 +147,7 @@ module _ (line : Line) where
   read_written chart h = from (behind (codes "voices") chart) refl h
     where
       from : (o : Option (List ℕ)) → behind (codes "voices") chart ≡ o → from_word o ≡ Some line → WrittenLine chart line
-      from None e g = absurd (none_is g)
+      from None e g = cc g
       from (Some bs) e g =
           let all = found bs [] between [] refl g in
           record {

@@ -1,8 +1,8 @@
 -- The tokens of a text, taken from its front one by one.
-use Rattle.std.proofs.Common.{◌≡◌, ℕ, suc, ◌+◌, ◌-◌, ◌<◌, ◌≤◌, min, true, false, not, eqb, List, [], ◌∷◌, length, get_or, take, drop, sym, refl, ap, ◌∙◌, inl, inr, add-zero, one-add, arith}
-use Rattle.std.proofs.lemmas.List.{at_drop_all, at_drop_more, drop-drop, drop_more}
-use Rattle.std.proofs.lemmas.List.Sums.{prefix_len-drop_yes}
-use Rattle.std.proofs.lemmas.Bool.{and_cases, and_from, and_parts, both_ways, cases_Bool, cases_lt, eq-eqb, ne_eqb, not-false, not_from_false, not-true}
+use Rattle.std.proofs.Common.{◌≡◌, ℕ, suc, ◌+◌, ◌<◌, ◌≤◌, true, false, not, eqb, List, [], ◌∷◌, length, get_or, take, drop, sym, refl, ap, ◌∙◌, inl, inr, add-zero, one-add, length-drop, get_or-drop, arith}
+use Rattle.std.proofs.lemmas.List.{at_drop_all, drop-drop}
+use Rattle.std.proofs.lemmas.List.Sums.{prefix_len_stops}
+use Rattle.std.proofs.lemmas.Bool.{and_cases, and_from, and_parts, both_ways, cases_Bool, eq-eqb, ne_eqb, not-false, not_from_false, not-true}
 use Rattle.std.specs.List.{prefix_len}
 use Rattle.text.specs.Tokens.{Piece, bar, symbol, blank, in_symbol, joined_to, left_from, tokens}
 
@@ -80,35 +80,47 @@ joined_run at b (c ∷ cs) =
         let p : at + 1 + suc n ≡ at + 1 + 1 + n = omega arith in
         rw (symbol_byte (at + 1) c cs e, ih, eq-eqb (at + 1) (at + 1) refl, e, one-add n, p)
 
-module _ (text : List ℕ) (at : ℕ) where
-  -- past blanks the tokens are the same
-  pub tokens_past : (pos : ℕ) → at ≡ pos + prefix_len blank (drop pos text) → left_from text pos ≡ left_from text at
-  tokens_past pos e =
-      let n = prefix_len blank (drop pos text) in
-      tokens_blanks pos (drop pos text) ∙ ap (tokens (pos + n)) (drop-drop n pos text) ∙ ap (left_from text) (sym e)
+tokens_none : (text : List ℕ) (at : ℕ) → length text ≤ at → left_from text at ≡ []
+tokens_none text at h = at_drop_all (tokens at) text at h
 
-  pub tokens_none : length text ≤ at → left_from text at ≡ []
-  tokens_none h = at_drop_all (tokens at) text at h
+-- a text from an offset on: all of it, and what is left behind the blanks at its front
+module _ (text whole rest : List ℕ) (pos n : ℕ) (blanks : n ≡ prefix_len blank whole) (from_pos : whole ≡ drop pos text) (from_at : rest ≡ drop (pos + n) text) where
+  past : left_from text pos ≡ tokens (pos + n) rest
+  past =
+      ap (tokens pos) (sym from_pos) ∙ tokens_blanks pos whole ∙ ap (λ k. tokens (pos + k) (drop k whole)) (sym blanks)
+      ∙ ap (tokens (pos + n)) (ap (drop n) from_pos ∙ drop-drop n pos text ∙ sym from_at)
 
-  -- behind the end there is no token, as at the end
-  pub tokens_from : (from : ℕ) → at ≡ min from (length text) → left_from text at ≡ left_from text from
-  tokens_from from e =
-      elim (cases_lt from (length text)) [
-        | inl h ↦ let p : at ≡ from = omega arith in ap (left_from text) p
-        | inr h ↦ tokens_none (omega arith) ∙ sym (at_drop_all (tokens from) text from h)
-      ]
+  pub next_none : length rest < 1 → (left_from text pos ≡ []) × (left_from text (pos + n) ≡ [])
+  next_none h =
+      let none = tokens_none text (pos + n) (omega (arith, length-drop (pos + n) text, ap length from_at)) in
+      (past ∙ ap (tokens (pos + n)) from_at ∙ none, none)
 
-  pub tokens_bar : at < length text → get_or text at 0 ≡ 124 → left_from text at ≡ bar at ∷ left_from text (at + 1)
-  tokens_bar h e = at_drop_more (tokens at) text at 0 h ∙ rw e
+  -- a byte stands behind the blanks
+  module _ (b : ℕ) (bs : List ℕ) (here : rest ≡ b ∷ bs) where
+    behind : bs ≡ drop (pos + n + 1) text
+    behind = ap (drop 1) (sym here ∙ from_at) ∙ drop-drop 1 (pos + n) text
 
-  pub tokens_symbol : (end : ℕ) → at < length text → blank (get_or text at 0) ≡ false → (get_or text at 0 ≡ 124 → ⊥) → end ≡ at + prefix_len in_symbol (drop at text) → left_from text at ≡ symbol (take (end - at) (drop at text)) at ∷ left_from text end
-  tokens_symbol end h full ne f =
-      let b = get_or text at 0 in
-      let e : in_symbol b ≡ true = and_from (not (blank b)) (not (eqb b 124)) (not_from_false (blank b) full) (not_from_false (eqb b 124) (ne_eqb b 124 ne)) in
-      let bs = drop (at + 1) text in
-      let n = prefix_len in_symbol bs in
-      let there : drop at text ≡ b ∷ bs = drop_more text at 0 h in
-      let long : prefix_len in_symbol (drop at text) ≡ suc n = prefix_len-drop_yes in_symbol text at 0 h e ∙ one-add n in
-      let p : end ≡ at + 1 + n = omega arith in
-      let q : end - at ≡ suc n = omega arith in
-      rw (there, q, symbol_byte at b bs e, joined_run at b bs, drop-drop n (at + 1) text, ← p)
+    full : blank b ≡ false
+    full =
+        let there : drop n whole ≡ b ∷ bs = ap (drop n) from_pos ∙ drop-drop n pos text ∙ sym from_at ∙ here in
+        let more : prefix_len blank whole < length whole = omega (arith, length-drop n whole, ap length there) in
+        let first : get_or whole n 0 ≡ b = rw (← add-zero n, ← get_or-drop) (ap (λ cs. get_or cs 0 0) there) in
+        rw (← blanks, first) at (prefix_len_stops blank whole 0 more)
+
+  pub next_bar : (r : List ℕ) → rest ≡ r → 1 ≤ length r → get_or r 0 0 ≡ 124 → left_from text pos ≡ bar (pos + n) ∷ left_from text (pos + n + 1)
+  next_bar [] here some is = absurd (omega arith)
+  next_bar (b ∷ bs) here some is = past ∙ rw (here, is) (ap (λ cs. bar (pos + n) ∷ tokens (pos + n + 1) cs) (behind b bs here))
+
+  pub next_symbol : (r : List ℕ) (k : ℕ) → rest ≡ r → 1 ≤ length r → (get_or r 0 0 ≡ 124 → ⊥) → k ≡ prefix_len in_symbol r → left_from text pos ≡ symbol (take k r) (pos + n) ∷ left_from text (pos + n + k)
+  next_symbol [] k here some other run = absurd (omega arith)
+  next_symbol (b ∷ bs) k here some other run =
+      let at = pos + n in
+      let e : in_symbol b ≡ true = and_from (not (blank b)) (not (eqb b 124)) (not_from_false (blank b) (full b bs here)) (not_from_false (eqb b 124) (ne_eqb b 124 other)) in
+      let m = prefix_len in_symbol bs in
+      let long : k ≡ suc m = run ∙ rw (e, one-add m) in
+      let p : at + 1 + m ≡ at + suc m = omega arith in
+      past ∙ rw (here, long, symbol_byte at b bs e, joined_run at b bs, ← p, ← drop-drop m (at + 1) text, ← behind b bs here)
+
+-- where a token is taken, fewer are left
+pub fewer : (ps qs : List Piece) (p : Piece) → ps ≡ p ∷ qs → length qs < length ps
+fewer ps qs p e = omega (arith, ap length e)

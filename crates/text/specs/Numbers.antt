@@ -6,7 +6,6 @@
 -- digits   the digits of a numeral of the code
 use Rattle.std.specs.Prelude.{ℕ, ◌+◌, ◌-◌, ◌*◌, Bool, cond, ◌&&◌, List, [], ◌∷◌, ◌++◌, length, Some, None, Option, nat_le}
 use Rattle.text.specs.declared.numeral.Numeral.{Numeral}
-use Rattle.text.specs.declared.numeral.Numeral.TheVariants.{Empty, One, Two, Three}
 
 abbrev pub digit : ℕ → Bool
 digit b = nat_le 48 b && nat_le b 57
@@ -24,7 +23,4 @@ number [] = None
 number (d ∷ ds) = Some (extended d ds)
 
 abbrev pub digits : Numeral → List ℕ
-digits Empty = []
-digits (One a) = a ∷ []
-digits (Two a b) = a ∷ b ∷ []
-digits (Three a b c) = a ∷ b ∷ c ∷ []
+digits n = n.digits.items

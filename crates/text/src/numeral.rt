@@ -1,43 +1,41 @@
 // A number of at most three digits, as it is read digit by digit.
-ghost use Rattle.std.specs.Prelude.{◌≡◌};
-ghost use Rattle.std.specs.Option.{option_map};
+ghost use Rattle.std.specs.Prelude.{◌≡◌, [], Some, None, MatchBool};
 ghost use Rattle.text.specs.Numbers.{digits, number, pushed};
 
+use arrayvec::ArrayVec;
+
 // The digits read so far, each as a number.
-#[derive(Clone, Copy)]
-pub enum Numeral {
-    Empty,
-    One(u8),
-    Two(u8, u8),
-    Three(u8, u8, u8),
+#[derive(Drop)]
+pub struct Numeral {
+    digits: ArrayVec<u8, 3>,
 }
 
 impl Numeral {
-    // The numeral with the byte at its end, where the byte is a digit and there is room for it.
-    pub fn push(self, byte: u8) -> Option<Numeral>
-        ensures { option_map digits result ≡ pushed (digits self) byte }
+    // No digit yet.
+    pub fn new() -> Numeral
+        ensures { digits result ≡ [] }
     {
-        if byte < b'0' || byte > b'9' {
-            return None;
-        }
-        let digit = byte - b'0';
-        match self {
-            Numeral::Empty => Some(Numeral::One(digit)),
-            Numeral::One(a) => Some(Numeral::Two(a, digit)),
-            Numeral::Two(a, b) => Some(Numeral::Three(a, b, digit)),
-            Numeral::Three(..) => None,
+        Numeral {
+            digits: ArrayVec::new(),
         }
     }
 
-    // The number; none without a digit.
-    pub fn value(self) -> Option<u16>
-        ensures { result ≡ number (digits self) }
+    // Takes the byte in at the end, where it is a digit and there is room for it; whether it did.
+    pub fn push(&mut self, byte: u8) -> bool
+        ensures { MatchBool result (pushed (digits self.old) byte ≡ Some (digits self.new)) ((pushed (digits self.old) byte ≡ None) × (self.new ≡ self.old)) }
     {
-        match self {
-            Numeral::Empty => None,
-            Numeral::One(a) => Some(a as u16),
-            Numeral::Two(a, b) => Some(10 * a as u16 + b as u16),
-            Numeral::Three(a, b, c) => Some(100 * a as u16 + 10 * b as u16 + c as u16),
+        byte.is_ascii_digit() && self.digits.try_push(byte - b'0').is_ok()
+    }
+
+    // The number; none without a digit.
+    pub fn value(&self) -> Option<u16>
+        ensures { result ≡ number (digits self.now) }
+    {
+        let (first, rest) = self.digits.split_first()?;
+        let mut value = u16::from(*first);
+        for digit in rest {
+            value = 10 * value + u16::from(*digit);
         }
+        Some(value)
     }
 }

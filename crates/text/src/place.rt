@@ -8,7 +8,7 @@ ghost use Rattle.text.specs.Telling.{place_of, step_of};
 use crate::numeral::Numeral;
 use harmony::range::Bounds;
 
-#[derive(Clone, Copy)]
+#[derive(Drop)]
 pub enum Place {
     // behind the word `voices`
     Between,
@@ -19,7 +19,7 @@ pub enum Place {
 }
 
 // What a byte does: the range that it ends, if any, and the place behind it; none where the line ends with the byte.
-#[derive(Clone, Copy)]
+#[derive(Drop)]
 pub struct Step {
     pub closed: Option<Bounds>,
     pub to: Option<Place>,
@@ -33,20 +33,22 @@ fn part(closed: Option<Bounds>, byte: u8) -> Option<Step>
         b'\n' => Some(Step { closed, to: None }),
         b' ' => Some(Step {
             closed,
-            to: Some(Place::Low(Numeral::Empty)),
+            to: Some(Place::Low(Numeral::new())),
         }),
         _ => None,
     }
 }
 
 // What a byte does in a low.
-fn low_step(number: Numeral, byte: u8) -> Option<Step>
+fn low_step(mut number: Numeral, byte: u8) -> Option<Step>
     ensures { option_map step_of result ≡ step (in_low (digits number)) byte }
 {
-    let to = match number.push(byte) {
-        Some(more) => Place::Low(more),
-        None if byte == b'-' => Place::High(number.value()?, Numeral::Empty),
-        None => return None,
+    let to = if number.push(byte) {
+        Place::Low(number)
+    } else if byte == b'-' {
+        Place::High(number.value()?, Numeral::new())
+    } else {
+        return None;
     };
     Some(Step {
         closed: None,
@@ -55,22 +57,17 @@ fn low_step(number: Numeral, byte: u8) -> Option<Step>
 }
 
 // What a byte does in a high behind that low.
-fn high_step(low: u16, number: Numeral, byte: u8) -> Option<Step>
+fn high_step(low: u16, mut number: Numeral, byte: u8) -> Option<Step>
     ensures { option_map step_of result ≡ step (in_high low (digits number)) byte }
 {
-    match number.push(byte) {
-        Some(more) => Some(Step {
+    if number.push(byte) {
+        return Some(Step {
             closed: None,
-            to: Some(Place::High(low, more)),
-        }),
-        None => part(
-            Some(Bounds {
-                low,
-                high: number.value()?,
-            }),
-            byte,
-        ),
+            to: Some(Place::High(low, number)),
+        });
     }
+    let high = number.value()?;
+    part(Some(Bounds { low, high }), byte)
 }
 
 impl Place {

@@ -1,5 +1,5 @@
 // The line of ranges, a chart's first line.
-ghost use Rattle.std.specs.Prelude.{◌≡◌, ◌+◌, ◌^◌, ◌<◌, ◌≤◌, length, drop, replicate, Some, None, Ok, Err, codes, MatchBool, MatchResult};
+ghost use Rattle.std.specs.Prelude.{◌≡◌, ℕ, ◌+◌, ◌^◌, ◌<◌, ◌≤◌, List, length, replicate, Some, None, Ok, Err, codes, MatchOption, MatchResult};
 ghost use Rattle.harmony.specs.Results.{result_map};
 ghost use Rattle.harmony.specs.VoiceRanges.{ranges_of};
 ghost use Rattle.harmony.specs.declared.refusal.Refusal.TheVariants.{MalformedHeading};
@@ -13,12 +13,14 @@ use harmony::refusal::Refusal;
 use harmony::voices::Voices;
 
 // The number of ranges in the line, the first six of them, and the offset of the byte behind the line feed.
+// It is copied, as an `ArrayVec` is not, and there may be more ranges than the array has.
 #[derive(Clone, Copy)]
 pub struct RangeLine {
     count: usize,
     first: [Bounds; 6],
     end: usize,
     ghost full: { length first ≡ 6 },
+    ghost counted: { count ≤ end },
 }
 
 impl RangeLine {
@@ -37,27 +39,23 @@ impl RangeLine {
 
     // The line with one byte more, and the range that the byte ends, if any; only the first six are kept.
     fn with(self, closed: Option<Bounds>) -> RangeLine
-        requires { (self.count ≤ self.end) × (self.end + 1 < 2 ^ 64) }
+        requires { self.end + 1 < 2 ^ 64 }
         ensures count { result.count ≡ more self.count closed }
         ensures first { result.first ≡ filled self.first self.count closed }
         ensures end { result.end ≡ self.end + 1 }
     {
-        let end = self.end + 1;
+        let mut count = self.count;
         let mut first = self.first;
-        let Some(range) = closed else {
-            return RangeLine {
-                count: self.count,
-                first,
-                end,
-            };
-        };
-        if self.count < 6 {
-            first[self.count] = range;
+        if let Some(range) = closed {
+            if count < 6 {
+                first[count] = range;
+            }
+            count += 1;
         }
         RangeLine {
-            count: self.count + 1,
+            count,
             first,
-            end,
+            end: self.end + 1,
         }
     }
 
@@ -68,7 +66,7 @@ impl RangeLine {
         if self.count > 6 {
             return Err(Refusal::VoiceNumber);
         }
-        Voices::new(&self.first[0..self.count])
+        Voices::new(&self.first[..self.count])
     }
 
     // The offset of the byte behind the line feed.
@@ -79,35 +77,21 @@ impl RangeLine {
     }
 }
 
-// Whether the chart begins with the word `voices`.
-fn opens(chart: &[u8]) -> bool
-    ensures { MatchBool result (behind (codes "voices") chart.now ≡ Some (drop 6 chart.now)) (behind (codes "voices") chart.now ≡ None) }
-{
-    match chart {
-        [b'v', b'o', b'i', b'c', b'e', b's', ..] => true,
-        _ => false,
-    }
-}
-
-// The line of ranges of a chart that begins with its word, or that it is malformed.
-fn behind_word(chart: &[u8]) -> Result<RangeLine, Refusal>
-    requires { behind (codes "voices") chart.now ≡ Some (drop 6 chart.now) }
-    ensures told { MatchResult result (λ l. Told chart.now l.count l.first l.end) (λ e. (e ≡ MalformedHeading) × (range_line chart.now ≡ None)) }
-    ensures form { LineForm chart.now }
+// The line of ranges with these bytes behind its word; none where it is malformed.
+fn behind_word(rest: &[u8]) -> Option<RangeLine>
+    ensures { (chart : List ℕ) → behind (codes "voices") chart ≡ Some rest.now → MatchOption result (range_line chart ≡ None) (λ l. Told chart l.count l.first l.end) }
 {
     let mut line = RangeLine::word();
     let mut place = Place::Between;
-    for i in line.end..chart.len() {
-        let Some(step) = place.step(chart[i]) else {
-            return Err(Refusal::MalformedHeading);
-        };
+    for byte in rest {
+        let step = place.step(*byte)?;
         line = line.with(step.closed);
         match step.to {
             Some(to) => place = to,
-            None => return Ok(line),
+            None => return Some(line),
         }
     }
-    Err(Refusal::MalformedHeading)
+    None
 }
 
 // The line of ranges of the chart, or that it is malformed.
@@ -115,8 +99,8 @@ pub fn range_line(chart: &[u8]) -> Result<RangeLine, Refusal>
     ensures told { MatchResult result (λ l. Told chart.now l.count l.first l.end) (λ e. (e ≡ MalformedHeading) × (range_line chart.now ≡ None)) }
     ensures form { LineForm chart.now }
 {
-    if !opens(chart) {
-        return Err(Refusal::MalformedHeading);
-    }
-    behind_word(chart)
+    chart
+        .strip_prefix(b"voices")
+        .and_then(behind_word)
+        .ok_or(Refusal::MalformedHeading)
 }
