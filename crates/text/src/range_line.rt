@@ -14,7 +14,7 @@ use harmony::voices::Voices;
 
 // The number of ranges in the line, the first six of them, and the offset of the byte behind the line feed.
 // It is copied, as an `ArrayVec` is not, and there may be more ranges than the array has.
-#[derive(Clone, Copy)]
+#[derive(Clone, Copy, Debug)]
 pub struct RangeLine {
     count: usize,
     first: [Bounds; 6],
