@@ -2,7 +2,6 @@ pub mod Chords
 pub mod Counts
 pub mod Neighbours
 pub mod Paired
-pub mod Passing
 pub mod Ranges
 pub mod Slashes
 pub mod Tally

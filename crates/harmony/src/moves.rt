@@ -18,7 +18,7 @@ impl Move {
     // The furthest move.
     pub const WIDEST: Move = Move { semitones: 24 };
 
-    // The move of that many semitones; none for a number that is no move.
+    // The move of that many semitones; none for a number that is no move. It serves constants, which a `TryFrom` cannot.
     pub const fn new(semitones: Semitones) -> Option<Move>
         ensures { MatchOption result (IsMove semitones → ⊥) (λ m. m.semitones ≡ semitones) }
     {

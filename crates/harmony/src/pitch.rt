@@ -24,7 +24,7 @@ impl Pitch {
 
     pub const HIGH_C: Pitch = Pitch { semitones: 72 };
 
-    // The pitch of that many semitones; none above 127.
+    // The pitch of that many semitones; none above 127. It serves constants, which a `TryFrom` cannot.
     pub const fn new(semitones: u8) -> Option<Pitch>
         ensures { MatchOption result (127 < semitones) (λ p. p.semitones ≡ semitones) }
     {

@@ -30,7 +30,7 @@ pub struct Voices {
 }
 
 impl VoiceCount {
-    // That many voices, where they are three to six.
+    // That many voices, where they are three to six; an option, as for a pitch or a move.
     pub fn new(number: usize) -> Option<VoiceCount>
         ensures { MatchOption result ((3 ≤ number → 6 < number)) (λ n. n.number ≡ number) }
     {

@@ -1,12 +1,12 @@
 -- The rows of several chords, added up chord by chord.
-use Rattle.std.proofs.Common.{◌≡◌, ℕ, ◌+◌, ◌*◌, ◌<◌, ◌≤◌, Bool, true, false, cond, leb, List, [], ◌∷◌, ◌++◌, length, get_or, take, drop, Some, None, sym, refl, ap, ◌∙◌, subst, append_assoc, append-nil, mul-le-mul_right, add-mul, arith}
-use Rattle.harmony.proofs.Passing.{pass_at}
+use Rattle.std.proofs.Common.{◌≡◌, ℕ, zero, suc, ◌+◌, ◌*◌, ◌<◌, ◌≤◌, Bool, true, false, cond, leb, List, [], ◌∷◌, ◌++◌, map, length, get_or, take, drop, Some, None, sym, refl, ap, ◌∙◌, subst, append_assoc, append-nil, mul-le-mul_right, add-mul, arith}
 use Rattle.harmony.specs.declared.chord.Chord.{Chord}
 use Rattle.harmony.specs.declared.refusal.Refusal.TheVariants.{NoRow, TooManyRows}
 use Rattle.harmony.specs.declared.voices.Voices.{Voices}
 use Rattle.rows.specs.Tables.{all_few, all_some, refused_first, rows_for, rows_of_each, together}
 use Rattle.std.proofs.lemmas.List.{length-append, map-append, take-append-drop, take_more}
-use Rattle.std.proofs.lemmas.Bool.{leb-true}
+use Rattle.std.proofs.lemmas.Bool.{and_parts, leb-true}
+use Rattle.std.specs.List.{list_all}
 
 -- where none is refused, each has a row and none has too many
 accepted : (rss : List (List (List ℕ))) → refused_first true rss ≡ None → (all_some rss ≡ true) × (all_few rss ≡ true)
@@ -16,6 +16,12 @@ accepted rss e = parts (all_some rss) (all_few rss) e
     parts true true e = (refl, refl)
     parts true false e = let z : ◌≡◌ {A = ℕ} 0 1 = cc in absurd (omega arith)
     parts false b e = let z : ◌≡◌ {A = ℕ} 0 1 = cc in absurd (omega arith)
+
+-- each of a list made from another has passed, where all have
+pass_at : {X Y : Type 0} (test : Y → Bool) (f : X → Y) (xs : List X) (i : ℕ) (d : X) → i < length xs → list_all test (map f xs) ≡ true → test (f (get_or xs i d)) ≡ true
+pass_at test f [] i d h e = absurd (omega arith)
+pass_at test f (x ∷ xs) zero d h e = (and_parts (test (f x)) (list_all test (map f xs)) e).0
+pass_at test f (x ∷ xs) (suc i) d h e = pass_at test f xs i d (omega arith) (and_parts (test (f x)) (list_all test (map f xs)) e).1
 
 -- what holds of each
 pub some_each : (voices : Voices) (chords : List Chord) (i : ℕ) (c : Chord) → i < length chords → c ≡ get_or chords i c → refused_first true (rows_of_each voices chords) ≡ None → 1 ≤ length (rows_for voices c)
