@@ -16,8 +16,7 @@ pub fn add_cost(page: &mut String, measure: HouseMeasure, numbers: &[u8]) -> io:
 {
     let mut line = [0; MOST_FIGURES];
     let moves = measure.tell(numbers, &mut line).unwrap();
-    page.push(char::from(measure.letter()))?;
-    write!(page, " moves {moves} figures")?;
+    write!(page, "{measure} moves {moves} figures")?;
     add_figures(page, &line[0..measure.width()])?;
     page.push('\n')?;
     Ok(())

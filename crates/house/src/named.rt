@@ -1,7 +1,6 @@
 // The measures that a text names by a letter.
-ghost use Rattle.std.specs.Prelude.{◌≡◌, Some, codes, length};
-ghost use Rattle.house.specs.Letters.{Meant, Named, figures_by, letter_of, meaning_by, width_by};
-ghost use Rattle.measures.specs.Meanings.{figures_of};
+ghost use Rattle.std.specs.Prelude.{◌≡◌, Some, [], ◌∷◌, codes, length};
+ghost use Rattle.house.specs.Letters.{Meant, Named, figures_by, letter_of, width_by};
 ghost use Rattle.measures.specs.Parts.{told};
 ghost use Rattle.measures.specs.Totals.{answered, heard};
 
@@ -38,6 +37,15 @@ pub enum HouseMeasure {
     Table,
     // the sum of the moves, and of equal sums the largest move
     SumThenLargest,
+}
+
+// The letter of the measure.
+impl fmt::Display for HouseMeasure {
+    ghost output = { λ h. Some (letter_of h ∷ []) };
+
+    fn fmt<W: fmt::Write>(&self, f: &mut fmt::Formatter<W>) -> fmt::Result {
+        f.write_char(char::from(self.letter()))
+    }
 }
 
 // A letter that no measure has.
@@ -97,19 +105,11 @@ impl HouseMeasure {
     }
 
     // Writes the figures of these numbers, added in turn, to the front of a line, and answers how many moves they are.
+    #[tactic(auto, using(crate::proofs::Letters::all_meant))]
     pub fn tell(self, numbers: &[Semitones], line: &mut [u32]) -> Result<u16, Refusal>
         ensures answer { result ≡ answered (width_by self) (length line.old) numbers.now }
         ensures line { line.new ≡ told (width_by self) (figures_by self (heard numbers.now)) line.old }
         ensures meant { Meant self }
-    {
-        figures_are(self, numbers);
-        self.tell_figures(numbers, line)
-    }
-
-    // Has each measure tell its figures of these numbers.
-    fn tell_figures(self, numbers: &[Semitones], line: &mut [u32]) -> Result<u16, Refusal>
-        ensures answer { result ≡ answered (width_by self) (length line.old) numbers.now }
-        ensures line { line.new ≡ told (width_by self) (figures_of (meaning_by self) (heard numbers.now)) line.old }
     {
         match self {
             HouseMeasure::Sum => tell_total(&SUM, numbers, line),
@@ -120,9 +120,3 @@ impl HouseMeasure {
         }
     }
 }
-
-// What a measure's figures are, of these numbers and of every list of moves.
-fn figures_are(measure: HouseMeasure, numbers: &[Semitones])
-    ensures figures { figures_of (meaning_by measure) (heard numbers.now) ≡ figures_by measure (heard numbers.now) }
-    ensures meant { Meant measure }
-{}

@@ -31,11 +31,10 @@ impl Costs for CountTable {
     }
 
     fn push(&self, cost: &mut TableCost, by: Move) {
-        let size = usize::from(by.semitones());
-        // a move of 0 has no count
-        if size > 0 {
-            let at = WIDTH - size;
-            cost.counts[at] = cost.counts[at].saturating_add(1);
+        let at = WIDTH - usize::from(by.semitones());
+        // A move of 0 has no count. The contract of get_mut does not say what the counts then are.
+        if let Some(count) = cost.counts.get(at) {
+            cost.counts[at] = count.saturating_add(1);
         }
         cost.moves = cost.moves.saturating_add(1);
     }

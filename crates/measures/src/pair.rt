@@ -25,7 +25,7 @@ pub struct PairCost<A, B> {
 }
 
 // The first measure, and the second where the first finds two costs equal.
-#[derive(Clone, Copy)]
+#[derive(Clone, Copy, Debug, PartialEq, Eq, Hash)]
 pub struct Pair<A, B> {
     pub first: A,
     pub second: B,
