@@ -10,7 +10,7 @@ use measures::line::{left_behind, tell_figure};
 use measures::measure::Measure;
 use std::cmp::Ordering;
 
-// The size of the largest move and a number of moves.
+// The size of the largest move and a number of moves. Each measure has a record of its own, so that the fields say what they hold.
 #[derive(Clone, Copy, Debug, PartialEq, Eq, Hash)]
 pub struct LargestCost {
     pub size: u8,

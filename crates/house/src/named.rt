@@ -81,6 +81,7 @@ impl TryFrom<u8> for HouseMeasure {
 }
 
 impl HouseMeasure {
+    // The letter, by name, since a conversion into u8 would not say which number of a measure it is.
     pub fn letter(self) -> u8
         ensures { result ≡ letter_of self }
     {

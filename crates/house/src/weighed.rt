@@ -12,7 +12,7 @@ use measures::measure::Measure;
 use measures::strict::StrictMeasure;
 use std::cmp::Ordering;
 
-// A sum of weights and a number of moves.
+// A sum of weights and a number of moves. Each measure has a record of its own, so that the fields say what they hold.
 #[derive(Clone, Copy, Debug, PartialEq, Eq, Hash)]
 pub struct SumCost {
     pub sum: u32,
