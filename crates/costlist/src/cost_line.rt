@@ -1,7 +1,6 @@
 // What the moves of a line cost, as text.
-ghost use Rattle.std.specs.Prelude.{◌≡◌, ◌++◌, length, string_bytes, OnOk};
+ghost use Rattle.std.specs.Prelude.{◌≡◌, ◌++◌, string_bytes, OnOk};
 ghost use Rattle.costlist.specs.CostLines.{cost_line, spaced};
-ghost use Rattle.house.specs.Letters.{letter_of};
 
 use house::named::HouseMeasure;
 use std::fmt::Write;

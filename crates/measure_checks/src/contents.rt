@@ -36,7 +36,7 @@ fn a_sum_is_counted_where_moves_could_have_made_it(rt: HostRuntime) {
         assert_eq!(rt; SQUARES.count(&cost), *squared);
         let mut after = cost;
         SUM.add(&mut after, 3);
-        let left = if *plain < 378 {
+        let expected = if *plain < 378 {
             SumCost {
                 sum: *sum + 3,
                 moves: *moves + 1,
@@ -44,7 +44,7 @@ fn a_sum_is_counted_where_moves_could_have_made_it(rt: HostRuntime) {
         } else {
             cost
         };
-        assert_eq!(rt; after, left);
+        assert_eq!(rt; after, expected);
     }
 }
 
@@ -71,7 +71,7 @@ fn a_largest_move_is_counted_where_moves_could_have_made_it(rt: HostRuntime) {
         assert_eq!(rt; Largest.count(&cost), *count);
         let mut after = cost;
         Largest.add(&mut after, 24);
-        let left = if *count < 378 {
+        let expected = if *count < 378 {
             LargestCost {
                 size: 24,
                 moves: *moves + 1,
@@ -79,7 +79,7 @@ fn a_largest_move_is_counted_where_moves_could_have_made_it(rt: HostRuntime) {
         } else {
             cost
         };
-        assert_eq!(rt; after, left);
+        assert_eq!(rt; after, expected);
     }
 }
 

@@ -12,7 +12,7 @@ use std::test::Fail;
 
 // What is left of a line, or the number of the refusal, and what 26 sevens hold then.
 #[derive(Clone, Copy, Debug, PartialEq, Eq)]
-struct Line {
+struct Written {
     left: Result<usize, u8>,
     line: [u32; 26],
 }
@@ -23,11 +23,11 @@ fn answer(left: Result<usize, Refusal>) -> Result<usize, u8> {
 }
 
 // Tells the moves 3, 24, 1 and 1 into so many of 26 sevens; none where there are not so many, or where fit answers something else.
-fn told<M: Measure>(measure: &M, length: usize) -> Option<Line> {
+fn told<M: Measure>(measure: &M, length: usize) -> Option<Written> {
     let mut line = [7; 26];
     let cost = total(measure, &[3, 24, 1, 1]);
     let left = answer(measure.tell(&cost, line.get_mut(0..length)?));
-    (left == answer(measure.fit(length))).then_some(Line { left, line })
+    (left == answer(measure.fit(length))).then_some(Written { left, line })
 }
 
 // 26 sevens with these figures at their front.
@@ -46,15 +46,15 @@ fn check_lines<M: Measure>(rt: &impl Abort, measure: &M, figures: &[u32]) -> Res
         return Err(Fail::new("no such width"));
     }
     let line = [7; 26];
-    let short = Line {
+    let short = Written {
         left: Err(17),
         line,
     };
     assert_eq!(rt; told(measure, width - 1), Some(short));
     let line = behind(figures);
-    let exact = Line { left: Ok(0), line };
+    let exact = Written { left: Ok(0), line };
     assert_eq!(rt; told(measure, width), Some(exact));
-    let longer = Line { left: Ok(1), line };
+    let longer = Written { left: Ok(1), line };
     assert_eq!(rt; told(measure, width + 1), Some(longer));
     Ok(())
 }

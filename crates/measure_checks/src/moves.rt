@@ -10,18 +10,18 @@ use std::process::Abort;
 
 // What a cost tells into a line of zeros, as far as two figures go, and how many moves it holds.
 #[derive(Clone, Copy, Debug, PartialEq, Eq)]
-struct Figures {
+struct Content {
     figures: [u32; 2],
     moves: u16,
 }
 
 // What a cost tells, or the number of the refusal.
-fn told<M: Measure>(measure: &M, cost: &M::Cost) -> Result<Figures, u8> {
+fn told<M: Measure>(measure: &M, cost: &M::Cost) -> Result<Content, u8> {
     let mut line = [0; 24];
     measure
         .tell(cost, &mut line)
         .map_err(|refusal| refusal.notice().number)?;
-    Ok(Figures {
+    Ok(Content {
         figures: [line[0], line[1]],
         moves: measure.count(cost),
     })
@@ -30,7 +30,7 @@ fn told<M: Measure>(measure: &M, cost: &M::Cost) -> Result<Figures, u8> {
 // Adds the widest move 378 times, and once more.
 fn fill<M: Measure>(rt: &impl Abort, measure: &M, figures: [u32; 2]) {
     let mut cost = measure.start();
-    let none = Figures {
+    let none = Content {
         figures: [0, 0],
         moves: 0,
     };
@@ -39,7 +39,7 @@ fn fill<M: Measure>(rt: &impl Abort, measure: &M, figures: [u32; 2]) {
         measure.add(&mut cost, 24);
     }
     assert_eq!(rt; measure.count(&cost), 377);
-    let full = Figures {
+    let full = Content {
         figures,
         moves: 378,
     };
@@ -63,15 +63,15 @@ fn widen<M: Measure>(rt: &impl Abort, measure: &M, figures: [u32; 2]) {
     let mut cost = measure.start();
     measure.add(&mut cost, 25);
     measure.add(&mut cost, 255);
-    let none = Figures {
+    let none = Content {
         figures: [0, 0],
         moves: 0,
     };
     assert_eq!(rt; told(measure, &cost), Ok(none));
     measure.add(&mut cost, 24);
-    assert_eq!(rt; told(measure, &cost), Ok(Figures { figures, moves: 1 }));
+    assert_eq!(rt; told(measure, &cost), Ok(Content { figures, moves: 1 }));
     measure.add(&mut cost, 0);
-    assert_eq!(rt; told(measure, &cost), Ok(Figures { figures, moves: 2 }));
+    assert_eq!(rt; told(measure, &cost), Ok(Content { figures, moves: 2 }));
 }
 
 #[test]
