@@ -21,6 +21,7 @@ pub fn total<M: Measure>(measure: &M, numbers: &[Semitones]) -> M::Cost
 }
 
 // Writes the figures of these numbers, added in turn, to the front of a line, and answers how many moves they are.
+// The numbers are read and the line is written, and a caller has them apart, so they are two parameters here and wherever figures are told.
 pub fn tell_total<M: Measure>(
     measure: &M,
     numbers: &[Semitones],
