@@ -1,24 +1,19 @@
 // What the moves of a line cost, as text.
-ghost use Rattle.std.specs.Prelude.{◌≡◌, ◌++◌, length, string_bytes, OnOk};
+ghost use Rattle.std.specs.Prelude.{◌≡◌, ◌++◌, string_bytes, OnOk};
 ghost use Rattle.costlist.specs.CostLines.{cost_line, spaced};
-ghost use Rattle.house.specs.Letters.{letter_of};
 
 use house::named::HouseMeasure;
 use std::fmt::Write;
 use std::io;
 
-// The most figures that a cost has.
-const MOST_FIGURES: usize = 24;
-
 // Adds what these numbers cost to a page, on a line of its own.
 pub fn add_cost(page: &mut String, measure: HouseMeasure, numbers: &[u8]) -> io::Result<()>
     ensures { OnOk result (string_bytes page.new ≡ string_bytes page.old ++ cost_line measure numbers.now) }
 {
-    let mut line = [0; MOST_FIGURES];
+    let mut line = vec![in *page.allocator(); 0; measure.width()]?;
     let moves = measure.tell(numbers, &mut line).unwrap();
-    page.push(measure.letter() as char)?;
-    write!(page, " moves {moves} figures")?;
-    add_figures(page, &line[0..measure.width()])?;
+    write!(page, "{measure} moves {moves} figures")?;
+    add_figures(page, &line)?;
     page.push('\n')?;
     Ok(())
 }

@@ -1,11 +1,11 @@
 -- That the measures of the letters are what their names say.
-use Rattle.std.proofs.Common.{◌≡◌, ℕ, ◌+◌, ◌*◌, max, List, [], ◌∷◌, ◌++◌, length, fold, sum_by, Result, sym, refl, ap, ◌∙◌, arith}
+use Rattle.std.proofs.Common.{◌≡◌, ℕ, ◌+◌, ◌*◌, max, List, [], ◌∷◌, ◌++◌, fold, sum_by, sym, refl, ap, ◌∙◌, arith}
 use Rattle.harmony.specs.Moves.{Semitones}
-use Rattle.harmony.specs.declared.refusal.Refusal.{Refusal}
 use Rattle.house.specs.TablesLemmas.{table_figures}
 use Rattle.house.specs.WeightsLemmas.{weighed_strict_laws}
 use Rattle.house.specs.Largest.{largest}
-use Rattle.house.specs.Letters.{Meant, greatest, meaning_by, width_by}
+use Rattle.house.specs.Letters.{Meant, figures_by, greatest, meaning_by, width_by}
+use Rattle.measures.proofs.Totals.{heard_fits}
 use Rattle.house.specs.Weights.{WeightLaws, weighed}
 use Rattle.house.specs.declared.named.HouseMeasure.{HouseMeasure}
 use Rattle.house.specs.declared.named.HouseMeasure.TheVariants.{Largest, Squares, Sum, SumThenLargest, Table}
@@ -13,7 +13,7 @@ use Rattle.measures.specs.PairsLemmas.{in_turn}
 use Rattle.measures.specs.Meanings.{figures_of, meaning}
 use Rattle.measures.specs.Parts.{told}
 use Rattle.measures.specs.Readings.{only}
-use Rattle.measures.specs.Totals.{answered, heard}
+use Rattle.measures.specs.Totals.{heard}
 
 only_figures : (f : ℕ → Semitones → ℕ) (a : ℕ) (ds : List Semitones) → fold (only f) (a ∷ []) ds ≡ fold f a ds ∷ []
 only_figures f a [] = refl
@@ -36,6 +36,6 @@ all_meant Largest ds fits = largest_figures ds
 all_meant Table ds fits = table_figures ds fits
 all_meant SumThenLargest ds fits = in_turn (weighed (λ d. d)) largest (weighed_strict_laws (λ d. d) plain_laws) ds fits ∙ (λ i. weighed_figures (λ d. d) ds i ++ largest_figures ds i)
 
--- what is told of the figures of a name is told by that name
-pub told_as : (h k : HouseMeasure) → h ≡ k → (numbers line : List ℕ) {after : List ℕ} {r : Result ℕ Refusal} → r ≡ answered (width_by k) (length line) numbers → after ≡ told (width_by k) (figures_of (meaning_by k) (heard numbers)) line → (r ≡ answered (width_by h) (length line) numbers) × (after ≡ told (width_by h) (figures_of (meaning_by h) (heard numbers)) line)
-told_as h k is numbers line a t = (a ∙ ap (λ x. answered (width_by x) (length line) numbers) (sym is), t ∙ ap (λ x. told (width_by x) (figures_of (meaning_by x) (heard numbers)) line) (sym is))
+-- what is told of the figures that the measure of a name gives is told as the name says
+pub told_as : (h k : HouseMeasure) → h ≡ k → (numbers line : List ℕ) {after : List ℕ} → after ≡ told (width_by k) (figures_of (meaning_by k) (heard numbers)) line → after ≡ told (width_by h) (figures_by h (heard numbers)) line
+told_as h k is numbers line t = t ∙ ap (λ fs. told (width_by k) fs line) (all_meant k (heard numbers) (heard_fits numbers)) ∙ ap (λ x. told (width_by x) (figures_by x (heard numbers)) line) (sym is)

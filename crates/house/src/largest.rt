@@ -4,35 +4,27 @@ ghost use Rattle.house.specs.LargestMoves.{largest_laws};
 
 use harmony::moves::Move;
 use harmony::refusal::Refusal;
-use measures::line::left_behind;
-use measures::measure::{MOST_MOVES, Measure};
+use measures::content::held;
+use measures::costs::Costs;
+use measures::line::{left_behind, tell_figure};
+use measures::measure::Measure;
 use std::cmp::Ordering;
 
-// The size of the largest move and a number of moves.
-#[derive(Clone, Copy)]
+// The size of the largest move and a number of moves. Each measure has a record of its own, so that the fields say what they hold.
+#[derive(Clone, Copy, Debug, PartialEq, Eq, Hash)]
 pub struct LargestCost {
     pub size: u8,
     pub moves: u16,
 }
 
 // The largest move, 0 for none.
-#[derive(Clone, Copy)]
+#[derive(Clone, Copy, Debug, PartialEq, Eq, Hash)]
 pub struct Largest;
 
-impl Measure for Largest {
+impl Costs for Largest {
     type Cost = LargestCost;
 
-    const LETTER: u8 = b'L';
-
-    ghost code = { 76 };
-
     ghost reading = { λ _. largest };
-
-    ghost lawful = { λ m. largest_laws };
-
-    fn letter_byte(&self) -> u8 {
-        Self::LETTER
-    }
 
     fn start(&self) -> LargestCost {
         LargestCost { size: 0, moves: 0 }
@@ -49,11 +41,7 @@ impl Measure for Largest {
         } else {
             Move::new(cost.size).is_some()
         };
-        if cost.moves < MOST_MOVES && could_be {
-            cost.moves
-        } else {
-            MOST_MOVES
-        }
+        held(could_be, cost.moves)
     }
 
     fn compare(&self, one: &LargestCost, other: &LargestCost) -> Ordering {
@@ -65,8 +53,14 @@ impl Measure for Largest {
     }
 
     fn tell(&self, cost: &LargestCost, line: &mut [u32]) -> Result<usize, Refusal> {
-        let left = left_behind(1, line.len())?;
-        line[0] = cost.size as u32;
-        Ok(left)
+        tell_figure(u32::from(cost.size), line)
     }
+}
+
+impl Measure for Largest {
+    const LETTER: u8 = b'L';
+
+    ghost LETTER = { 76 };
+
+    ghost lawful = { λ m. largest_laws };
 }

@@ -1,29 +1,31 @@
 // The measures that a text names by a letter.
-ghost use Rattle.std.specs.Prelude.{◌≡◌, length, MatchOption, ◌≢◌};
-ghost use Rattle.house.specs.Letters.{Meant, figures_by, letter_of, meaning_by, width_by};
-ghost use Rattle.measures.specs.Meanings.{figures_of};
+ghost use Rattle.std.specs.Prelude.{◌≡◌, Some, [], ◌∷◌, codes, length};
+ghost use Rattle.house.specs.Letters.{Meant, Named, figures_by, letter_of, width_by};
 ghost use Rattle.measures.specs.Parts.{told};
 ghost use Rattle.measures.specs.Totals.{answered, heard};
 
 use crate::largest::Largest;
 use crate::table::CountTable;
 use crate::table::cost::WIDTH;
-use crate::weighed::{SQUARES, SUM, Sum};
-use crate::weight::Weight;
+use crate::weighed::{SQUARES, SUM, Squares, Sum};
 use harmony::moves::Semitones;
 use harmony::refusal::Refusal;
 use measures::measure::Measure;
 use measures::pair::Pair;
 use measures::total::tell_total;
+use std::error::Error;
+use std::fmt;
 
 // The pair that the letter P means in text.
-pub const SUM_THEN_LARGEST: Pair<Sum, Largest> = Pair {
+pub type SumThenLargest = Pair<Sum, Largest>;
+
+pub const SUM_THEN_LARGEST: SumThenLargest = Pair {
     first: SUM,
     second: Largest,
 };
 
 // A measure of the house, by what it measures.
-#[derive(Clone, Copy)]
+#[derive(Clone, Copy, Debug, PartialEq, Eq, Hash)]
 pub enum HouseMeasure {
     // the sum of the moves
     Sum,
@@ -37,30 +39,58 @@ pub enum HouseMeasure {
     SumThenLargest,
 }
 
-impl HouseMeasure {
-    // The measure with this letter.
-    pub fn named(letter: u8) -> Option<HouseMeasure>
-        ensures { MatchOption result ((h : HouseMeasure) → letter_of h ≢ letter) (λ h. letter_of h ≡ letter) }
-    {
+// The letter of the measure.
+impl fmt::Display for HouseMeasure {
+    ghost output = { λ h. Some (letter_of h ∷ []) };
+
+    fn fmt<W: fmt::Write>(&self, f: &mut fmt::Formatter<W>) -> fmt::Result {
+        f.write_char(char::from(self.letter()))
+    }
+}
+
+// A letter that no measure has.
+#[derive(Clone, Copy, Debug, PartialEq, Eq, Hash)]
+pub struct UnknownLetter;
+
+impl fmt::Display for UnknownLetter {
+    ghost output = { λ _. Some (codes "no measure has this letter") };
+
+    fn fmt<W: fmt::Write>(&self, f: &mut fmt::Formatter<W>) -> fmt::Result {
+        f.write_str("no measure has this letter")
+    }
+}
+
+impl Error for UnknownLetter {}
+
+// The measure with this letter.
+impl TryFrom<u8> for HouseMeasure {
+    type Error = UnknownLetter;
+
+    ghost try_from_gives = { Named };
+
+    fn try_from(letter: u8) -> Result<Self, UnknownLetter> {
         match letter {
-            b'S' => Some(HouseMeasure::Sum),
-            b'Q' => Some(HouseMeasure::Squares),
-            b'L' => Some(HouseMeasure::Largest),
-            b'M' => Some(HouseMeasure::Table),
-            b'P' => Some(HouseMeasure::SumThenLargest),
-            _ => None,
+            b'S' => Ok(HouseMeasure::Sum),
+            b'Q' => Ok(HouseMeasure::Squares),
+            b'L' => Ok(HouseMeasure::Largest),
+            b'M' => Ok(HouseMeasure::Table),
+            b'P' => Ok(HouseMeasure::SumThenLargest),
+            _ => Err(UnknownLetter),
         }
     }
+}
 
+impl HouseMeasure {
+    // The letter, by name, since a conversion into u8 would not say which number of a measure it is.
     pub fn letter(self) -> u8
         ensures { result ≡ letter_of self }
     {
         match self {
-            HouseMeasure::Sum => SUM.letter_byte(),
-            HouseMeasure::Squares => SQUARES.letter_byte(),
-            HouseMeasure::Largest => Largest.letter_byte(),
-            HouseMeasure::Table => CountTable.letter_byte(),
-            HouseMeasure::SumThenLargest => SUM_THEN_LARGEST.letter_byte(),
+            HouseMeasure::Sum => Sum::LETTER,
+            HouseMeasure::Squares => Squares::LETTER,
+            HouseMeasure::Largest => Largest::LETTER,
+            HouseMeasure::Table => CountTable::LETTER,
+            HouseMeasure::SumThenLargest => SumThenLargest::LETTER,
         }
     }
 
@@ -76,20 +106,13 @@ impl HouseMeasure {
     }
 
     // Writes the figures of these numbers, added in turn, to the front of a line, and answers how many moves they are.
+    #[tactic(auto, using(crate::proofs::Letters::all_meant))]
     pub fn tell(self, numbers: &[Semitones], line: &mut [u32]) -> Result<u16, Refusal>
         ensures answer { result ≡ answered (width_by self) (length line.old) numbers.now }
         ensures line { line.new ≡ told (width_by self) (figures_by self (heard numbers.now)) line.old }
         ensures meant { Meant self }
     {
-        figures_are(self, numbers);
-        self.tell_figures(numbers, line)
-    }
-
-    // Has each measure tell its figures of these numbers.
-    fn tell_figures(self, numbers: &[Semitones], line: &mut [u32]) -> Result<u16, Refusal>
-        ensures answer { result ≡ answered (width_by self) (length line.old) numbers.now }
-        ensures line { line.new ≡ told (width_by self) (figures_of (meaning_by self) (heard numbers.now)) line.old }
-    {
+        // Each arm has a type of its own, with costs of its own, so that no dyn could stand for all.
         match self {
             HouseMeasure::Sum => tell_total(&SUM, numbers, line),
             HouseMeasure::Squares => tell_total(&SQUARES, numbers, line),
@@ -99,9 +122,3 @@ impl HouseMeasure {
         }
     }
 }
-
-// What a measure's figures are, of these numbers and of every list of moves.
-fn figures_are(measure: HouseMeasure, numbers: &[Semitones])
-    ensures figures { figures_of (meaning_by measure) (heard numbers.now) ≡ figures_by measure (heard numbers.now) }
-    ensures meant { Meant measure }
-{}

@@ -11,13 +11,9 @@ pub trait Weight {
     // the letter of the measure that adds up these weights
     const LETTER: u8;
 
-    ghost code: { ℕ };
+    ghost LETTER: { ℕ };
 
     ghost weigh: { Self → Semitones → ℕ };
-
-    // The letter.
-    fn letter_byte(&self) -> u8
-        ensures { result ≡ code };
 
     // The weight of a move.
     fn of(&self, by: Move) -> u16
@@ -27,46 +23,38 @@ pub trait Weight {
 }
 
 // The move itself.
-#[derive(Clone, Copy)]
+#[derive(Clone, Copy, Debug, PartialEq, Eq, Hash)]
 pub struct Plain;
 
 // The square of the move.
-#[derive(Clone, Copy)]
+#[derive(Clone, Copy, Debug, PartialEq, Eq, Hash)]
 pub struct Squared;
 
 impl Weight for Plain {
     const LETTER: u8 = b'S';
 
-    ghost code = { 83 };
+    ghost LETTER = { 83 };
 
     ghost weigh = { λ _ d. d };
 
     ghost lawful = { Prim.search rules };
 
-    fn letter_byte(&self) -> u8 {
-        Self::LETTER
-    }
-
     fn of(&self, by: Move) -> u16 {
-        by.semitones() as u16
+        u16::from(by.semitones())
     }
 }
 
 impl Weight for Squared {
     const LETTER: u8 = b'Q';
 
-    ghost code = { 81 };
+    ghost LETTER = { 81 };
 
     ghost weigh = { λ _ d. d * d };
 
     ghost lawful = { Prim.search rules };
 
-    fn letter_byte(&self) -> u8 {
-        Self::LETTER
-    }
-
     fn of(&self, by: Move) -> u16 {
-        let size = by.semitones() as u16;
+        let size = u16::from(by.semitones());
         size * size
     }
 }

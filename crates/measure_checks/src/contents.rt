@@ -4,9 +4,9 @@ use house::named::SUM_THEN_LARGEST;
 use house::table::CountTable;
 use house::table::cost::TableCost;
 use house::weighed::{SQUARES, SUM, SumCost};
+use measures::costs::Costs;
 use measures::measure::Measure;
 use measures::pair::PairCost;
-use measures::strict::StrictMeasure;
 
 // A sum, its moves, and how many moves it stands for by the sum and by the squares.
 struct Sums(u32, u16, u16, u16);
@@ -32,13 +32,19 @@ fn a_sum_is_counted_where_moves_could_have_made_it(rt: HostRuntime) {
             sum: *sum,
             moves: *moves,
         };
-        assert_eq!(rt; Measure::count(&SUM, &cost), *plain);
-        assert_eq!(rt; Measure::count(&SQUARES, &cost), *squared);
+        assert_eq!(rt; SUM.count(&cost), *plain);
+        assert_eq!(rt; SQUARES.count(&cost), *squared);
         let mut after = cost;
-        Measure::add(&SUM, &mut after, 3);
-        let taken = *plain < 378;
-        assert_eq!(rt; after.sum, if taken { *sum + 3 } else { *sum });
-        assert_eq!(rt; after.moves, if taken { *moves + 1 } else { *moves });
+        SUM.add(&mut after, 3);
+        let expected = if *plain < 378 {
+            SumCost {
+                sum: *sum + 3,
+                moves: *moves + 1,
+            }
+        } else {
+            cost
+        };
+        assert_eq!(rt; after, expected);
     }
 }
 
@@ -65,9 +71,15 @@ fn a_largest_move_is_counted_where_moves_could_have_made_it(rt: HostRuntime) {
         assert_eq!(rt; Largest.count(&cost), *count);
         let mut after = cost;
         Largest.add(&mut after, 24);
-        let taken = *count < 378;
-        assert_eq!(rt; after.size, if taken { 24 } else { *size });
-        assert_eq!(rt; after.moves, if taken { *moves + 1 } else { *moves });
+        let expected = if *count < 378 {
+            LargestCost {
+                size: 24,
+                moves: *moves + 1,
+            }
+        } else {
+            cost
+        };
+        assert_eq!(rt; after, expected);
     }
 }
 
@@ -75,27 +87,17 @@ fn a_largest_move_is_counted_where_moves_could_have_made_it(rt: HostRuntime) {
 fn a_table_is_counted_where_moves_could_have_made_it(rt: HostRuntime) {
     let mut counts = [0; 24];
     counts[23] = 3;
-    assert_eq!(rt;
-        Measure::count(&CountTable, &TableCost { counts, moves: 3 }),
-        3
-    );
-    assert_eq!(rt;
-        Measure::count(&CountTable, &TableCost { counts, moves: 2 }),
-        378
-    );
-    assert_eq!(rt;
-        Measure::count(&CountTable, &TableCost { counts, moves: 379 }),
-        378
-    );
+    assert_eq!(rt; CountTable.count(&TableCost { counts, moves: 3 }), 3);
+    assert_eq!(rt; CountTable.count(&TableCost { counts, moves: 2 }), 378);
+    assert_eq!(rt; CountTable.count(&TableCost { counts, moves: 379 }), 378);
     let full = TableCost {
         counts: [65535; 24],
         moves: 65535,
     };
-    assert_eq!(rt; Measure::count(&CountTable, &full), 378);
+    assert_eq!(rt; CountTable.count(&full), 378);
     let mut after = full;
-    Measure::add(&CountTable, &mut after, 24);
-    assert_eq!(rt; after.counts, [65535; 24]);
-    assert_eq!(rt; after.moves, 65535);
+    CountTable.add(&mut after, 24);
+    assert_eq!(rt; after, full);
 }
 
 #[test]
@@ -108,8 +110,6 @@ fn a_pair_holds_as_many_moves_as_its_fuller_half(rt: HostRuntime) {
     let cost = PairCost { first, second };
     assert_eq!(rt; SUM_THEN_LARGEST.count(&cost), 378);
     let mut after = cost;
-    Measure::add(&SUM_THEN_LARGEST, &mut after, 1);
-    assert_eq!(rt; after.first.sum, 5);
-    assert_eq!(rt; after.first.moves, 5);
-    assert_eq!(rt; after.second.moves, 378);
+    SUM_THEN_LARGEST.add(&mut after, 1);
+    assert_eq!(rt; after, cost);
 }

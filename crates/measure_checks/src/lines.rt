@@ -5,42 +5,36 @@ use house::named::{HouseMeasure, SUM_THEN_LARGEST};
 use house::table::CountTable;
 use house::weighed::{SQUARES, SUM};
 use measures::measure::Measure;
-use measures::strict::StrictMeasure;
 use measures::total::total;
 use std::cmp::Ordering;
 use std::process::Abort;
 use std::test::Fail;
 
-// What is left of a line, or 1000 and the number of the refusal.
-fn answer(left: Result<usize, Refusal>) -> usize {
-    match left {
-        Ok(numbers) => numbers,
-        Err(refusal) => 1000 + refusal.notice().number as usize,
-    }
+// What is left of a line, or the number of the refusal, and what 26 sevens hold then.
+#[derive(Clone, Copy, Debug, PartialEq, Eq)]
+struct Written {
+    left: Result<usize, u8>,
+    line: [u32; 26],
 }
 
-// What telling the moves 3, 24, 1 and 1 into so many of 26 sevens answers and leaves; the same answer as fit's, or 2000.
-fn told<M: Measure>(measure: &M, length: usize) -> (usize, [u32; 26]) {
+// What is left of a line, or the number of the refusal.
+fn answer(left: Result<usize, Refusal>) -> Result<usize, u8> {
+    left.map_err(|refusal| refusal.notice().number)
+}
+
+// Tells the moves 3, 24, 1 and 1 into so many of 26 sevens; none where there are not so many, or where fit answers something else.
+fn told<M: Measure>(measure: &M, length: usize) -> Option<Written> {
     let mut line = [7; 26];
-    if length > 26 {
-        return (2000, line);
-    }
     let cost = total(measure, &[3, 24, 1, 1]);
-    let left = answer(measure.tell(&cost, &mut line[0..length]));
-    if left == answer(measure.fit(length)) {
-        (left, line)
-    } else {
-        (2000, line)
-    }
+    let left = answer(measure.tell(&cost, line.get_mut(0..length)?));
+    (left == answer(measure.fit(length))).then_some(Written { left, line })
 }
 
 // 26 sevens with these figures at their front.
 fn behind(figures: &[u32]) -> [u32; 26] {
     let mut line = [7; 26];
-    for (i, figure) in figures.iter().enumerate() {
-        if i < 26 {
-            line[i] = *figure;
-        }
+    for (number, figure) in line.iter_mut().zip(figures) {
+        *number = *figure;
     }
     line
 }
@@ -51,9 +45,17 @@ fn check_lines<M: Measure>(rt: &impl Abort, measure: &M, figures: &[u32]) -> Res
     if width < 1 || width > 24 {
         return Err(Fail::new("no such width"));
     }
-    assert_eq!(rt; told(measure, width - 1), (1017, [7; 26]));
-    assert_eq!(rt; told(measure, width), (0, behind(figures)));
-    assert_eq!(rt; told(measure, width + 1), (1, behind(figures)));
+    let line = [7; 26];
+    let short = Written {
+        left: Err(17),
+        line,
+    };
+    assert_eq!(rt; told(measure, width - 1), Some(short));
+    let line = behind(figures);
+    let exact = Written { left: Ok(0), line };
+    assert_eq!(rt; told(measure, width), Some(exact));
+    let longer = Written { left: Ok(1), line };
+    assert_eq!(rt; told(measure, width + 1), Some(longer));
     Ok(())
 }
 
@@ -75,12 +77,8 @@ fn a_line_has_room_for_the_figures_or_stays_as_it_was(rt: HostRuntime) -> Result
 #[test]
 fn a_table_tells_the_widest_moves_first(rt: HostRuntime) {
     let mut line = [7; 25];
-    assert!(rt;
-        matches!(
-            HouseMeasure::Table.tell(&[24, 5, 0, 5, 1, 30], &mut line),
-            Ok(5)
-        )
-    );
+    let moves = HouseMeasure::Table.tell(&[24, 5, 0, 5, 1, 30], &mut line);
+    assert_eq!(rt; moves.ok(), Some(5));
     assert_eq!(rt;
         line,
         [

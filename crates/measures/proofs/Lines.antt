@@ -1,20 +1,7 @@
 -- Figures written to the front of a line.
-use Rattle.std.proofs.Common.{◌≡◌, ℕ, ◌+◌, ◌-◌, ◌<◌, ◌≤◌, cond, leb, List, [], ◌∷◌, ◌++◌, length, get_or, take, drop, set, Ok, Err, sym, ap, ◌∙◌, arith}
-use Rattle.harmony.specs.declared.refusal.Refusal.TheVariants.{ShortFigureLine}
+use Rattle.std.proofs.Common.{◌≡◌, ℕ, ◌+◌, ◌<◌, List, [], ◌∷◌, ◌++◌, length, get_or, take, drop, set, sym, ap, ◌∙◌, arith}
 use Rattle.measures.specs.Figures.{Figures}
-use Rattle.measures.specs.Parts.{left, told}
 use Rattle.std.proofs.lemmas.List.{append_assoc, drop_more, length-take-le, set_at, take_more}
-use Rattle.std.proofs.lemmas.Bool.{cond_both, cond-true, le-leb, leb-true}
-
--- a line that is not refused has room
-pub room_from : (width n left k : ℕ) → cond (leb width n) (Ok left) (Err ShortFigureLine) ≡ Ok k → (width ≤ n) × (k ≡ left)
-room_from width n left k = cond_both (leb width n) (Ok left) (Err ShortFigureLine) (λ x. x ≡ Ok k → (width ≤ n) × (k ≡ left)) (λ e h. (leb-true width n e, cc)) (λ e h. absurd (let z : ◌≡◌ {A = ℕ} 0 1 = cc in omega arith))
-
-pub left_room : (width n : ℕ) → width ≤ n → left width n ≡ Ok (n - width)
-left_room width n room = cond-true (leb width n) (Ok (n - width)) (Err ShortFigureLine) (le-leb width n room)
-
-pub told_long : (width : ℕ) (fs : Figures) (line : List ℕ) → width ≤ length line → told width fs line ≡ fs ++ drop width line
-told_long width fs line h = cond-true (leb width (length line)) (fs ++ drop width line) line (le-leb width (length line) h)
 
 -- one figure more
 pub written_more : (fs : Figures) (line was : List ℕ) (i : ℕ) → i < length fs → i < length was → line ≡ take i fs ++ drop i was → set line i (get_or fs i 0) ≡ take (i + 1) fs ++ drop (i + 1) was

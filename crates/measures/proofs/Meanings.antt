@@ -7,13 +7,10 @@ use Rattle.measures.specs.Laws.{Laws, StrictLaws}
 use Rattle.measures.specs.Meanings.{Fits, Lawful, StrictlyLawful, figures_of, meaning}
 use Rattle.measures.specs.Readings.{Reading, Takes, most_moves}
 use Rattle.std.proofs.lemmas.List.{length-append}
+use Rattle.std.proofs.lemmas.List.Sums.{fold-append}
 use Rattle.std.specs.List.{AllByRecursion}
 
 -- ---- lists of moves
-
-pub folded_append : {A B : Type 0} (f : B → A → B) (a : B) (xs ys : List A) → fold f a (xs ++ ys) ≡ fold f (fold f a xs) ys
-folded_append f a [] ys = refl
-folded_append f a (x ∷ xs) ys = folded_append f (f a x) xs ys
 
 pub all_front : {A : Type 0} (P : A → Type 0) (xs ys : List A) → AllByRecursion P (xs ++ ys) → AllByRecursion P xs
 all_front P [] ys h = tt
@@ -75,7 +72,7 @@ module _ {C : Type 0} (r : Reading C) (laws : Laws r) where
 
   -- the figures of moves with some more behind
   behind : (ds es : List Semitones) → fold r.step (figures_of (meaning r) ds) es ≡ figures_of (meaning r) (ds ++ es)
-  behind ds es = sym (folded_append r.step (meaning r).start ds es)
+  behind ds es = sym (fold-append r.step (meaning r).start ds es)
 
   list_steady : (ds : List Semitones) → Fits ds → length (figures_of (meaning r) ds) ≡ r.width
   list_steady ds h = subst (λ fs. length fs ≡ r.width) (made_figures ds h) (laws.steady (fold r.pushed r.none ds))

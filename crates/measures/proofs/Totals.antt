@@ -6,7 +6,7 @@ use Rattle.measures.specs.Laws.{Laws}
 use Rattle.measures.specs.Meanings.{Fits, figures_of, meaning}
 use Rattle.measures.specs.Parts.{added}
 use Rattle.measures.specs.Readings.{Reading, most_moves}
-use Rattle.measures.specs.Totals.{heard, total}
+use Rattle.measures.specs.Totals.{Totalled, heard, total}
 use Rattle.std.proofs.ByRecursion.{All-take, All-weaker, kept_by_passes}
 use Rattle.std.proofs.lemmas.Bool.{leb-true}
 
@@ -33,11 +33,14 @@ module _ {C : Type 0} (r : Reading C) (laws : Laws r) where
   total_taken [] (suc n) c h = refl
   total_taken (d ∷ ds) n c h = tested d ds (total_taken ds) n c (is_move d) (ltb (r.moves c) most_moves) h refl refl
 
-  pub total_heard : (ds : List Semitones) → total r ds ≡ fold r.pushed r.none (heard ds)
+  total_heard : (ds : List Semitones) → total r ds ≡ fold r.pushed r.none (heard ds)
   total_heard ds = let none : r.moves r.none ≡ 0 = laws.empty in total_taken ds most_moves r.none (omega arith)
 
-  pub total_moves : (ds : List Semitones) → r.moves (total r ds) ≡ length (heard ds)
+  total_moves : (ds : List Semitones) → r.moves (total r ds) ≡ length (heard ds)
   total_moves ds = ap r.moves (total_heard ds) ∙ made_moves r laws (heard ds) (heard_fits ds)
 
-  pub total_figures : (ds : List Semitones) → r.figures (total r ds) ≡ figures_of (meaning r) (heard ds)
+  total_figures : (ds : List Semitones) → r.figures (total r ds) ≡ figures_of (meaning r) (heard ds)
   total_figures ds = ap r.figures (total_heard ds) ∙ made_figures r laws (heard ds) (heard_fits ds)
+
+  pub totalled : (ds : List Semitones) (c : C) → c ≡ total r ds → Totalled r ds c
+  totalled ds c is = record { cost = is; moves = ap r.moves is ∙ total_moves ds; figures = ap r.figures is ∙ total_figures ds }

@@ -4,26 +4,17 @@ use Rattle.std.specs.declared.cmp.Ordering.TheVariants.{Less, Equal, Greater}
 use Rattle.std.specs.declared.cmp.Ordering.{Ordering}
 use Rattle.std.proofs.Common.{true≢false, ◌∙◌, ap, subst, sym, arith}
 use Rattle.measures.specs.Figures.{AtMost, Below, Figures, FirstLower, OrderMeans, order}
-use Rattle.std.specs.Cmp.{ranks}
+use Rattle.std.specs.Cmp.{nat_cmp_is, ranks}
+use Rattle.std.specs.FinMap.{nat_cmp-IsAntisymmetric, slice_cmp-IsAntisymmetric}
 use Rattle.std.specs.Ordering.{MatchOrdering, is_gt, is_lt, ordering_then, nat_cmp}
 
 -- ---- single numbers
 
-ranked_less : (m n : ℕ) (o : Ordering) → m < n → MatchOrdering o (m < n) (m ≡ n) (n < m) → o ≡ Less
-ranked_less m n Less h k = refl
-ranked_less m n Equal h k = absurd (omega arith)
-ranked_less m n Greater h k = absurd (omega arith)
-
 pub rank_less : (m n : ℕ) → m < n → nat_cmp m n ≡ Less
-rank_less m n h = ranked_less m n (nat_cmp m n) h (ranks m n)
-
-ranked_same : (m : ℕ) (o : Ordering) → MatchOrdering o (m < m) (m ≡ m) (m < m) → o ≡ Equal
-ranked_same m Less k = absurd (omega arith)
-ranked_same m Equal k = refl
-ranked_same m Greater k = absurd (omega arith)
+rank_less m n h = sym (nat_cmp_is m n Less h)
 
 pub rank_same : (m : ℕ) → nat_cmp m m ≡ Equal
-rank_same m = ranked_same m (nat_cmp m m) (ranks m m)
+rank_same m = sym (nat_cmp_is m m Equal refl)
 
 -- ---- lists of figures
 
@@ -31,16 +22,8 @@ pub order_same : (fs : Figures) → order fs fs ≡ Equal
 order_same [] = refl
 order_same (f ∷ fs) = ap (λ o. ordering_then o (order fs fs)) (rank_same f) ∙ order_same fs
 
-same_heads : (f g : ℕ) (fs gs : Figures) (o : Ordering) → (order fs gs ≡ Equal → fs ≡ gs) → MatchOrdering o (f < g) (f ≡ g) (g < f) → ordering_then o (order fs gs) ≡ Equal → f ∷ fs ≡ g ∷ gs
-same_heads f g fs gs Less k r e = absurd (true≢false (ap is_lt e))
-same_heads f g fs gs Equal k r e = λ i. r i ∷ k e i
-same_heads f g fs gs Greater k r e = absurd (true≢false (ap is_gt e))
-
 pub same_from_order : (fs gs : Figures) → order fs gs ≡ Equal → fs ≡ gs
-same_from_order [] [] e = refl
-same_from_order [] (g ∷ gs) e = absurd (true≢false (ap is_lt e))
-same_from_order (f ∷ fs) [] e = absurd (true≢false (ap is_gt e))
-same_from_order (f ∷ fs) (g ∷ gs) e = same_heads f g fs gs (nat_cmp f g) (same_from_order fs gs) (ranks f g) e
+same_from_order = slice_cmp-IsAntisymmetric nat_cmp-IsAntisymmetric
 
 then_assoc : (a b c : Ordering) → ordering_then (ordering_then a b) c ≡ ordering_then a (ordering_then b c)
 then_assoc Less b c = refl

@@ -4,12 +4,9 @@
 -- order_in_turn     the order of the first halves, and of the second where those are equal
 -- figures_in_turn   the figures of a list of moves under the first measure and then those under the second
 -- InTurn            the pair's figures of a list of moves are these
--- left_for          how many numbers a line has left behind the first half's figures, where those of both find room
-use Rattle.std.specs.Prelude.{◌≡◌, ℕ, ◌+◌, ◌-◌, max, cond, List, ◌++◌, take, drop, Ok, Err, Result, nat_le}
+use Rattle.std.specs.Prelude.{◌≡◌, ◌+◌, max, List, ◌++◌, take, drop}
 use Rattle.std.specs.declared.cmp.Ordering.{Ordering}
 use Rattle.harmony.specs.Moves.{Semitones}
-use Rattle.harmony.specs.declared.refusal.Refusal.{Refusal}
-use Rattle.harmony.specs.declared.refusal.Refusal.TheVariants.{ShortFigureLine}
 use Rattle.measures.specs.Figures.{Figures, order}
 use Rattle.measures.specs.Meanings.{Fits, figures_of, meaning}
 use Rattle.measures.specs.Readings.{Reading}
@@ -35,6 +32,3 @@ module _ {A B : Type 0} (r : Reading A) (s : Reading B) where
 
   abbrev pub InTurn : Type 0
   InTurn = (ds : List Semitones) → Fits ds → figures_of (meaning (both r s)) ds ≡ figures_in_turn ds
-
-abbrev pub left_for : ℕ → ℕ → ℕ → Result ℕ Refusal
-left_for first second length = cond (nat_le (first + second) length) (Ok (length - first)) (Err ShortFigureLine)

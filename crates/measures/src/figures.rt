@@ -9,13 +9,5 @@ pub fn compare_lines(one: &[u32], other: &[u32]) -> Ordering
     ensures order { result ≡ order one.now other.now }
     ensures means { OrderMeans one.now other.now }
 {
-    in_order(one, other)
-}
-
-// Compares figure by figure.
-fn in_order(one: &[u32], other: &[u32]) -> Ordering
-    ensures order { result ≡ order one.now other.now }
-    ensures means { OrderMeans one.now other.now }
-{
     one.cmp(other)
 }

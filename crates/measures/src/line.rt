@@ -1,6 +1,6 @@
 // The room of a figure line.
-ghost use Rattle.std.specs.Prelude.{◌≡◌};
-ghost use Rattle.measures.specs.Parts.{left};
+ghost use Rattle.std.specs.Prelude.{◌≡◌, [], ◌∷◌, length};
+ghost use Rattle.measures.specs.Parts.{left, told};
 
 use harmony::refusal::Refusal;
 
@@ -8,9 +8,17 @@ use harmony::refusal::Refusal;
 pub fn left_behind(width: usize, length: usize) -> Result<usize, Refusal>
     ensures { result ≡ left width length }
 {
-    if width <= length {
-        Ok(length - width)
-    } else {
-        Err(Refusal::ShortFigureLine)
-    }
+    length.checked_sub(width).ok_or(Refusal::ShortFigureLine)
+}
+
+// Writes a lone figure to the front of a line, and answers how many numbers are left behind it.
+pub fn tell_figure(figure: u32, line: &mut [u32]) -> Result<usize, Refusal>
+    ensures answer { result ≡ left 1 (length line.old) }
+    ensures line { line.new ≡ told 1 (figure ∷ []) line.old }
+{
+    let Some((first, behind)) = line.split_first_mut() else {
+        return Err(Refusal::ShortFigureLine);
+    };
+    *first = figure;
+    Ok(behind.len())
 }

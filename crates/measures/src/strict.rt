@@ -1,45 +1,9 @@
-// A measure under which a lesser cost stays the less.
-ghost use Rattle.std.specs.Prelude.{◌≡◌, length};
-ghost use Rattle.measures.specs.Figures.{order};
+// Costs under which a lesser one stays the less.
 ghost use Rattle.measures.specs.Laws.{StrictLaws};
-ghost use Rattle.measures.specs.Parts.{left, told};
-ghost use Rattle.measures.specs.Readings.{Reading};
 
-use harmony::moves::Move;
-use harmony::refusal::Refusal;
-use std::cmp::Ordering;
+use crate::costs::Costs;
 
-// The parts are those of a measure, by the same words; it stands on its own, so that a pair can ask for it alone.
-pub trait StrictMeasure {
-    type Cost: Copy;
-
-    // what the costs mean
-    ghost reading: { Self → Reading Self.Cost };
-
-    // The cost of no moves.
-    fn start(&self) -> Self::Cost
-        ensures { result ≡ (reading self.now).none };
-
-    // Adds a move, with no test of the room.
-    fn push(&self, cost: &mut Self::Cost, by: Move)
-        ensures { cost.new ≡ (reading self.now).pushed cost.old by.semitones };
-
-    // How many moves the cost holds.
-    fn count(&self, cost: &Self::Cost) -> u16
-        ensures { result ≡ (reading self.now).moves cost.now };
-
-    // Which of two costs is the less.
-    fn compare(&self, one: &Self::Cost, other: &Self::Cost) -> Ordering
-        ensures { result ≡ order ((reading self.now).figures one.now) ((reading self.now).figures other.now) };
-
-    // How many numbers a line of this length has left behind the figures.
-    fn fit(&self, length: usize) -> Result<usize, Refusal>
-        ensures { result ≡ left (reading self.now).width length };
-
-    // Writes the figures to the front of a line, and answers what fit does.
-    fn tell(&self, cost: &Self::Cost, line: &mut [u32]) -> Result<usize, Refusal>
-        ensures answer { result ≡ left (reading self.now).width (length line.old) }
-        ensures line { line.new ≡ told (reading self.now).width ((reading self.now).figures cost.now) line.old };
-
-    ghost lawful: { (m : Self) → StrictLaws (reading m) };
+// It stands on its own, so that a pair can ask for it alone: all laws, and no letter.
+pub trait StrictMeasure: Costs {
+    ghost lawful: { (m : Self) → StrictLaws (Self.reading m) };
 }

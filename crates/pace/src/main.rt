@@ -6,10 +6,7 @@ use house::largest::Largest;
 use house::named::SUM_THEN_LARGEST;
 use house::table::CountTable;
 use house::weighed::{SQUARES, SUM};
-use house::weight::Weight;
 use measures::measure::Measure;
-use measures::strict::StrictMeasure;
-use std::cmp::Ordering;
 use std::io;
 use std::time::Instant;
 
@@ -18,7 +15,7 @@ const MOVES: usize = 6000;
 
 // Keeps the lesser of two costs.
 fn keep<M: Measure>(measure: &M, best: &mut M::Cost, cost: &M::Cost) {
-    if let Ordering::Less = measure.compare(cost, best) {
+    if measure.compare(cost, best).is_lt() {
         *best = *cost;
     }
 }
@@ -54,8 +51,9 @@ fn time<M: Measure>(
     let best = least(measure, moves, rounds);
     let micros = start.elapsed(rt)?.as_micros();
     let mut line = [0; 24];
+    // The figures of each measure here find room. A second way out for a refusal was tried: it moves the loops in the program, and M then takes a third longer.
     let _ = measure.tell(&best, &mut line);
-    let letter = measure.letter_byte() as char;
+    let letter = char::from(M::LETTER);
     let figure = line[0];
     println!(rt; "{letter} {micros} {figure}")
 }
@@ -63,8 +61,9 @@ fn time<M: Measure>(
 // Moves of 0 to 12 in an order that does not repeat soon.
 fn scatter(moves: &mut [Move]) {
     let mut seed: u32 = 1;
-    for slot in moves.iter_mut() {
+    for slot in moves {
         seed = seed.wrapping_mul(1103515245).wrapping_add(12345);
+        // A number below 13, so nothing is lost; a checked conversion would want a second case.
         if let Some(by) = Move::new(((seed / 65536) % 13) as u8) {
             *slot = by;
         }

@@ -5,7 +5,7 @@ ghost use Rattle.std.specs.Prelude.{◌≡◌, length};
 pub const WIDTH: usize = 24;
 
 // How many moves there are of 24 semitones, of 23, down to 1, and how many in all.
-#[derive(Clone, Copy)]
+#[derive(Clone, Copy, Debug, PartialEq, Eq, Hash)]
 pub struct TableCost {
     pub counts: [u16; WIDTH],
     pub moves: u16,

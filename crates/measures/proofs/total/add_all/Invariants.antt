@@ -1,6 +1,0 @@
-use Rattle.std.proofs.Common.{◌≡◌, take}
-use Rattle.measures.proofs.total.add_all.Given as goal
-use Rattle.measures.specs.Totals.{total}
-
-abbrev pub invariant-loop-number : goal.invariant-loop-number
-invariant-loop-number g l = l.cost ≡ total (g.M.Measure.reading l.measure) (take l.number-index l.numbers)
