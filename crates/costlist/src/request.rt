@@ -10,14 +10,14 @@ use std::fmt;
 
 // The measure and the numbers that a line names.
 #[derive(Debug, Drop)]
-pub struct Request {
+pub(crate) struct Request {
     pub measure: HouseMeasure,
     pub numbers: Vec<u8>,
 }
 
 // Why a line asks for nothing.
 #[derive(Debug, Drop)]
-pub enum RequestError<'a> {
+pub(crate) enum RequestError<'a> {
     // the word is no number that a line may have
     NoNumber(&'a str),
     NoMeasure(UnknownLetter),
@@ -49,7 +49,7 @@ impl From<UnknownLetter> for RequestError<'_> {
 }
 
 // The request of a line; a word that is no number is told before a letter that no measure has.
-pub fn read_request(alloc: Global, text: &str) -> Result<Request, RequestError> {
+pub(crate) fn read_request(alloc: Global, text: &str) -> Result<Request, RequestError> {
     let mut words = text.split(' ');
     let measure = measure_of(words.next().unwrap_or(""));
     let numbers = words.map(number_of).try_collect(alloc)?;
