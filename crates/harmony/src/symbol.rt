@@ -102,7 +102,7 @@ fn slashed(behind: Option<&[u8]>) -> Result<Option<PitchClass>, Refusal>
 }
 
 impl Symbol {
-    // What a symbol says, or why it is none.
+    // What a symbol says, or why it is none. A symbol is any bytes, so no `FromStr` reads it.
     pub fn read(bytes: &[u8]) -> Result<Symbol, Refusal>
         ensures { result_map reading result ≡ symbol_of bytes.now }
     {

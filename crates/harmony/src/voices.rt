@@ -1,11 +1,6 @@
 // The voices of a board: three to six ranges that rise.
 ghost use Rattle.std.specs.Prelude.{◌≡◌, ◌<◌, ◌≤◌, true, map, length, take, is_ok, MatchOption};
 ghost use Rattle.harmony.specs.Ranges.{bounds, voices_of};
-ghost use Rattle.std.proofs.Common.{rules};
-ghost use Rattle.std.specs.Cmp.Rules.{comparing};
-ghost use Rattle.std.specs.Cmp.{on_equiv, on_per};
-ghost use Rattle.std.specs.Cmp.Lexicographic.{lists_equiv, lists_per, pointwise};
-ghost use Rattle.std.specs.Ordering.{on};
 
 use crate::range::Range;
 
@@ -45,19 +40,4 @@ impl VoiceCount {
     {
         self.number
     }
-}
-
-// Voices are equal where they have the same ranges; what stands behind the last voice is not asked.
-impl PartialEq for Voices {
-    ghost eq = { on (λ v. take v.count.number v.ranges) (pointwise ⟦<Range as PartialEq>⟧.eq) };
-
-    ghost laws = { on_per (λ v. take v.count.number v.ranges) (lists_per (Prim.search (comparing, rules))) };
-
-    fn eq(&self, other: &Voices) -> bool {
-        self.ranges() == other.ranges()
-    }
-}
-
-impl Eq for Voices {
-    ghost laws = { on_equiv (λ v. take v.count.number v.ranges) (lists_equiv (Prim.search (comparing, rules))) };
 }

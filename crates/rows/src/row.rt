@@ -33,6 +33,7 @@ impl Row<'_> {
         if part.len() < voices {
             return Err(Refusal::ShortRowTable);
         }
+        // by index, since behind a zip with `iter_mut` nothing is known of what was written
         for (voice, pitch) in self.pitches[..voices].iter().enumerate() {
             part[voice] = pitch.semitones();
         }

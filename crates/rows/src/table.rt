@@ -1,4 +1,5 @@
 // The rows of a chord, counted and written to the front of a part of a table of bytes.
+// Voices and chord are lent apart, here and in `progression`: callers keep the voices while chords come and go.
 ghost use Rattle.std.specs.Prelude.{◌≡◌, ◌*◌, ◌<◌, ◌≤◌, [], ◌∷◌, ◌++◌, length, drop, Ok};
 ghost use Rattle.harmony.specs.Chords.{harmony};
 ghost use Rattle.harmony.specs.VoiceRanges.{ranges_of};

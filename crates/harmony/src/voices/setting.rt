@@ -47,6 +47,7 @@ fn bounds_of(pairs: &[[u8; 2]]) -> [Bounds; 6]
     ensures { take (length pairs.now) result ≡ map low_high pairs.now }
 {
     let mut within = [Bounds { low: 0, high: 0 }; 6];
+    // by index, as above
     for (i, pair) in pairs.iter().enumerate() {
         within[i] = Bounds::from(*pair);
     }
@@ -83,6 +84,7 @@ impl Voices {
     }
 
     // The voices with the bounds in these bytes, low and high of voice 1, then of voice 2, and so on; or the first rule that they break.
+    // By name, since a `TryFrom` of bytes would not say what the bytes are.
     pub fn from_bytes(bytes: &[u8]) -> Result<Voices, Refusal>
         ensures { result_map ranges_of result ≡ set_up bytes.now }
     {
