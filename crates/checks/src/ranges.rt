@@ -64,7 +64,7 @@ fn every_rule_of_the_ranges_holds_at_its_boundary(rt: HostRuntime) {
 
 #[test]
 fn voices_that_were_never_set_up_are_three_from_48_to_72(rt: HostRuntime) {
-    let voices = Voices::unset();
+    let voices = Voices::default();
     assert_eq!(rt; voices.ranges().len(), 3);
     for range in voices.ranges() {
         assert_eq!(rt; bounds(range), [48, 72]);

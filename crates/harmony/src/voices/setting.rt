@@ -95,13 +95,6 @@ impl Voices {
         Voices::new(&bounds_of(pairs)[..pairs.len()])
     }
 
-    // The voices of a board that was never set up: three of 48 to 72.
-    pub fn unset() -> Voices
-        ensures { ranges_of result ≡ never_set }
-    {
-        Voices::default()
-    }
-
     // How many voices there are.
     pub fn count(&self) -> VoiceCount
         ensures { result ≡ self.now.count }
