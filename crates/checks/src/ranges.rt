@@ -2,37 +2,37 @@
 use harmony::range::Range;
 use harmony::voices::Voices;
 
-// Bytes, and the number of their refusal where they are refused.
-struct SetUp(&'static [u8], Option<u8>);
+// Bytes that are accepted, or the number of their refusal.
+struct SetUp(&'static [u8], Result<(), u8>);
 
 const SET_UPS: [SetUp; 24] = [
-    SetUp(&[48, 60, 55, 67, 60, 72], None),
-    SetUp(&[0, 24, 0, 24, 0, 24, 0, 24], None),
-    SetUp(&[60, 60, 60, 60, 60, 60, 60, 60, 60, 60], None),
+    SetUp(&[48, 60, 55, 67, 60, 72], Ok(())),
+    SetUp(&[0, 24, 0, 24, 0, 24, 0, 24], Ok(())),
+    SetUp(&[60, 60, 60, 60, 60, 60, 60, 60, 60, 60], Ok(())),
     SetUp(
         &[103, 127, 103, 127, 103, 127, 103, 127, 103, 127, 103, 127],
-        None,
+        Ok(()),
     ),
-    SetUp(&[], Some(1)),
-    SetUp(&[48, 60, 55, 67], Some(1)),
-    SetUp(&[48, 60, 55, 67, 60], Some(1)),
-    SetUp(&[48, 60, 55, 67, 60, 72, 60], Some(1)),
-    SetUp(&[200; 13], Some(1)),
-    SetUp(&[60; 14], Some(1)),
-    SetUp(&[48, 72, 48, 72, 48, 72], None),
-    SetUp(&[48, 73, 48, 73, 48, 73], Some(2)),
-    SetUp(&[48, 72, 48, 72, 48, 73], Some(2)),
-    SetUp(&[104, 127, 104, 127, 104, 128], Some(2)),
-    SetUp(&[61, 60, 61, 72, 61, 72], Some(2)),
-    SetUp(&[60, 60, 60, 60, 60, 59], Some(2)),
-    SetUp(&[60, 72, 48, 60, 200, 210], Some(2)),
-    SetUp(&[200, 210, 200, 210, 200, 210], Some(2)),
-    SetUp(&[48, 60, 47, 60, 48, 60], Some(3)),
-    SetUp(&[48, 60, 48, 59, 48, 60], Some(3)),
-    SetUp(&[48, 60, 55, 67, 54, 72], Some(3)),
-    SetUp(&[48, 60, 55, 67, 60, 66], Some(3)),
-    SetUp(&[48, 60, 48, 60, 48, 60, 48, 60, 48, 60, 47, 60], Some(3)),
-    SetUp(&[48, 60, 48, 60, 48, 60, 48, 60, 48, 60, 48, 59], Some(3)),
+    SetUp(&[], Err(1)),
+    SetUp(&[48, 60, 55, 67], Err(1)),
+    SetUp(&[48, 60, 55, 67, 60], Err(1)),
+    SetUp(&[48, 60, 55, 67, 60, 72, 60], Err(1)),
+    SetUp(&[200; 13], Err(1)),
+    SetUp(&[60; 14], Err(1)),
+    SetUp(&[48, 72, 48, 72, 48, 72], Ok(())),
+    SetUp(&[48, 73, 48, 73, 48, 73], Err(2)),
+    SetUp(&[48, 72, 48, 72, 48, 73], Err(2)),
+    SetUp(&[104, 127, 104, 127, 104, 128], Err(2)),
+    SetUp(&[61, 60, 61, 72, 61, 72], Err(2)),
+    SetUp(&[60, 60, 60, 60, 60, 59], Err(2)),
+    SetUp(&[60, 72, 48, 60, 200, 210], Err(2)),
+    SetUp(&[200, 210, 200, 210, 200, 210], Err(2)),
+    SetUp(&[48, 60, 47, 60, 48, 60], Err(3)),
+    SetUp(&[48, 60, 48, 59, 48, 60], Err(3)),
+    SetUp(&[48, 60, 55, 67, 54, 72], Err(3)),
+    SetUp(&[48, 60, 55, 67, 60, 66], Err(3)),
+    SetUp(&[48, 60, 48, 60, 48, 60, 48, 60, 48, 60, 47, 60], Err(3)),
+    SetUp(&[48, 60, 48, 60, 48, 60, 48, 60, 48, 60, 48, 59], Err(3)),
 ];
 
 // The bounds of a range, low and high.
@@ -47,18 +47,19 @@ fn have(voices: &Voices, bytes: &[u8]) -> bool {
     ranges.len() * 2 == bytes.len() && pairs.all(|(range, pair)| pair == bounds(range).as_slice())
 }
 
-// Whether the bytes are refused with this number, or without one accepted with exactly their bounds.
-fn answers(bytes: &[u8], refused: Option<u8>) -> bool {
-    match Voices::from_bytes(bytes) {
-        Ok(voices) => refused.is_none() && have(&voices, bytes),
-        Err(refusal) => refused == Some(refusal.notice().number),
+// Whether the bytes are accepted with exactly their bounds, or refused with this number.
+fn answers(bytes: &[u8], wanted: Result<(), u8>) -> bool {
+    match (Voices::from_bytes(bytes), wanted) {
+        (Ok(voices), Ok(())) => have(&voices, bytes),
+        (Err(refusal), Err(number)) => refusal.notice().number == number,
+        _ => false,
     }
 }
 
 #[test]
 fn every_rule_of_the_ranges_holds_at_its_boundary(rt: HostRuntime) {
-    for SetUp(bytes, refused) in &SET_UPS {
-        assert!(rt; answers(bytes, *refused));
+    for SetUp(bytes, wanted) in &SET_UPS {
+        assert!(rt; answers(bytes, *wanted));
     }
 }
 

@@ -111,7 +111,7 @@ const REFUSED: [Refused; 27] = [
 
 // The chord that a symbol names in so many voices, or the number of its refusal; none where there cannot be so many.
 fn read(symbol: &[u8], voices: usize) -> Option<Result<Chord, u8>> {
-    let voices = VoiceCount::new(voices)?;
+    let voices = VoiceCount::try_from(voices).ok()?;
     Some(Chord::read(symbol, voices).map_err(|refusal| refusal.notice().number))
 }
 

@@ -51,7 +51,7 @@ impl From<UnknownLetter> for RequestError<'_> {
 // The request of a line; a word that is no number is told before a letter that no measure has.
 pub(crate) fn read_request(alloc: Global, text: &str) -> Result<Request, RequestError> {
     let mut words = text.split(' ');
-    let measure = measure_of(words.next().unwrap_or(""));
+    let measure = words.next().ok_or(UnknownLetter).and_then(measure_of);
     let numbers = words.map(number_of).try_collect(alloc)?;
     Ok(Request {
         measure: measure?,
@@ -64,7 +64,7 @@ fn number_of(word: &str) -> Result<u8, RequestError> {
     word.parse().map_err(|_| RequestError::NoNumber(word))
 }
 
-// The measure that a word names: one letter.
+// The measure that a word names: one letter. No `FromStr`, since the trait and the measure are both from elsewhere.
 fn measure_of(word: &str) -> Result<HouseMeasure, UnknownLetter>
     ensures { MatchResult result (λ h. word.now ≡ letter_of h ∷ []) (λ _. (h : HouseMeasure) → word.now ≢ letter_of h ∷ []) }
 {

@@ -1,5 +1,6 @@
 pub mod Chords
 pub mod Counts
+pub mod Mapped
 pub mod Neighbours
 pub mod Paired
 pub mod Ranges

@@ -18,7 +18,7 @@ impl Move {
     // The furthest move.
     pub const WIDEST: Move = Move { semitones: 24 };
 
-    // The move of that many semitones; none for a number that is no move. It serves constants, which a `TryFrom` cannot.
+    // The move of that many semitones; none for a number that is no move. A `const fn` for callers, beside which a `TryFrom` would say the same twice.
     pub const fn new(semitones: Semitones) -> Option<Move>
         ensures { MatchOption result (IsMove semitones → ⊥) (λ m. m.semitones ≡ semitones) }
     {

@@ -24,7 +24,7 @@ impl Pitch {
 
     pub const HIGH_C: Pitch = Pitch { semitones: 72 };
 
-    // The pitch of that many semitones; none above 127. It serves constants, which a `TryFrom` cannot.
+    // The pitch of that many semitones; none above 127. A `const fn` for callers, beside which a `TryFrom` would say the same twice.
     pub const fn new(semitones: u8) -> Option<Pitch>
         ensures { MatchOption result (127 < semitones) (λ p. p.semitones ≡ semitones) }
     {

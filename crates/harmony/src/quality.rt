@@ -48,7 +48,7 @@ impl Quality {
         }
     }
 
-    // The quality that a text names.
+    // The quality that a text names. An option and no `TryFrom`, since what to refuse with is for the symbol to say.
     pub fn named(text: &[u8]) -> Option<Quality>
         ensures { result ≡ quality_of text.now }
     {

@@ -33,7 +33,7 @@ fn letter(byte: u8) -> Option<PitchClass>
 }
 
 // A note's name at the front of a text: its class, and the text behind it.
-#[derive(Clone, Copy)]
+#[derive(Clone, Copy, Debug, PartialEq, Eq)]
 struct NoteName<'a> {
     class: PitchClass,
     rest: &'a [u8],
@@ -102,7 +102,7 @@ fn slashed(behind: Option<&[u8]>) -> Result<Option<PitchClass>, Refusal>
 }
 
 impl Symbol {
-    // What a symbol says, or why it is none. A symbol is any bytes, so no `FromStr` reads it.
+    // What a symbol says, or why it is none. By name, since a `TryFrom` of bytes would not say what the bytes are.
     pub fn read(bytes: &[u8]) -> Result<Symbol, Refusal>
         ensures { result_map reading result ≡ symbol_of bytes.now }
     {

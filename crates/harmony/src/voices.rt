@@ -1,8 +1,10 @@
 // The voices of a board: three to six ranges that rise.
-ghost use Rattle.std.specs.Prelude.{◌≡◌, ◌<◌, ◌≤◌, true, map, length, take, is_ok, MatchOption};
+ghost use Rattle.std.specs.Prelude.{◌≡◌, ◌<◌, ◌≤◌, true, map, length, take, is_ok, MatchResult};
 ghost use Rattle.harmony.specs.Ranges.{bounds, voices_of};
+ghost use Rattle.harmony.specs.declared.refusal.Refusal.TheVariants.{VoiceNumber};
 
 use crate::range::Range;
+use crate::refusal::Refusal;
 
 mod setting;
 
@@ -15,7 +17,7 @@ pub struct VoiceCount {
 }
 
 // The ranges of the voices, from the lowest voice up; what stands behind the last voice means nothing.
-// An array with a count, since voices are copied and an `ArrayVec` has no `Copy`.
+// An array with a count, since voices are `Copy` for callers, as an `ArrayVec` is not.
 #[derive(Clone, Copy, Debug)]
 pub struct Voices {
     count: VoiceCount,
@@ -24,17 +26,21 @@ pub struct Voices {
     ghost kept: { is_ok (voices_of (map bounds (take count.number ranges))) ≡ true },
 }
 
-impl VoiceCount {
-    // That many voices, where they are three to six; an option, as for a pitch or a move.
-    pub fn new(number: usize) -> Option<VoiceCount>
-        ensures { MatchOption result ((3 ≤ number → 6 < number)) (λ n. n.number ≡ number) }
-    {
+// That many voices, where they are three to six.
+impl TryFrom<usize> for VoiceCount {
+    type Error = Refusal;
+
+    ghost try_from_gives = { λ number answer. MatchResult answer (λ n. n.number ≡ number) (λ e. (3 ≤ number → 6 < number) × (e ≡ VoiceNumber)) };
+
+    fn try_from(number: usize) -> Result<VoiceCount, Refusal> {
         match number {
-            3..=6 => Some(VoiceCount { number }),
-            _ => None,
+            3..=6 => Ok(VoiceCount { number }),
+            _ => Err(Refusal::VoiceNumber),
         }
     }
+}
 
+impl VoiceCount {
     pub fn number(self) -> usize
         ensures { result ≡ self.number }
     {

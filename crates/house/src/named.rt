@@ -112,7 +112,7 @@ impl HouseMeasure {
         ensures line { line.new ≡ told (width_by self) (figures_by self (heard numbers.now)) line.old }
         ensures meant { Meant self }
     {
-        // Each arm has a type of its own, with costs of its own, so that no dyn could stand for all.
+        // Five known kinds by a match: a dyn would want a trait of its own for them, and be no plainer.
         match self {
             HouseMeasure::Sum => tell_total(&SUM, numbers, line),
             HouseMeasure::Squares => tell_total(&SQUARES, numbers, line),

@@ -54,10 +54,7 @@ impl Costs for CountTable {
 
     fn tell(&self, cost: &TableCost, line: &mut [u32]) -> Result<usize, Refusal> {
         let left = left_behind(WIDTH, line.len())?;
-        // The contract of a zip with iter_mut does not say what the line then holds.
-        for (i, count) in cost.counts.iter().enumerate() {
-            line[i] = u32::from(*count);
-        }
+        line[..WIDTH].copy_from_slice(&cost.counts.map(|count| u32::from(count)));
         Ok(left)
     }
 }

@@ -1,5 +1,5 @@
 -- The pair of two measures is a measure, and a strict one where both are.
-use Rattle.std.specs.Prelude.{◌≡◌, ℕ, suc, ◌+◌, ◌≤◌, max, true, false, List, [], ◌∷◌, ◌++◌, length, fold}
+use Rattle.std.specs.Prelude.{◌≡◌, ℕ, suc, ◌+◌, ◌≤◌, max, true, false, List, [], ◌∷◌, ◌++◌, length, fold, ◌≢◌}
 use Rattle.std.specs.declared.cmp.Ordering.TheVariants.{Less, Equal, Greater}
 use Rattle.std.specs.declared.cmp.Ordering.{Ordering}
 use Rattle.std.proofs.Math.Bool.{true≢false}
@@ -49,6 +49,11 @@ at_most_halves : (fs gs hs ks : Figures) → length fs ≡ length gs → AtMost 
 unfolding AtMost
 at_most_halves fs gs hs ks wide first second = ap is_gt (order_append fs gs hs ks wide) ∙ not_greater (order fs gs) (order hs ks) first second
 
+first_decides : (o k : Ordering) → (o ≢ Equal) → o ≡ ordering_then o k
+first_decides Less k unequal = refl
+first_decides Equal k unequal = absurd (unequal refl)
+first_decides Greater k unequal = refl
+
 -- ---- the pair's order and laws
 
 module _ {A B : Type 0} (r : Reading A) (s : Reading B) (first : StrictLaws r) where
@@ -83,6 +88,12 @@ module _ {A B : Type 0} (r : Reading A) (s : Reading B) (first : StrictLaws r) w
 
   pub order_halves : (b c : PairCost A B) → order ((both r s).figures b) ((both r s).figures c) ≡ order_in_turn r s b c
   order_halves b c = order_append (r.figures b.first) (r.figures c.first) (s.figures b.second) (s.figures c.second) (wide_alike b c)
+
+  pub by_first : (b c : PairCost A B) (o : Ordering) → (o ≢ Equal) → o ≡ order (r.figures b.first) (r.figures c.first) → o ≡ order ((both r s).figures b) ((both r s).figures c)
+  by_first b c o unequal e = first_decides o (order (s.figures b.second) (s.figures c.second)) unequal ∙ ap (λ k. ordering_then k (order (s.figures b.second) (s.figures c.second))) e ∙ sym (order_halves b c)
+
+  pub by_second : (b c : PairCost A B) (o : Ordering) → Equal ≡ order (r.figures b.first) (r.figures c.first) → o ≡ order (s.figures b.second) (s.figures c.second) → o ≡ order ((both r s).figures b) ((both r s).figures c)
+  by_second b c o e h = h ∙ ap (λ k. ordering_then k (order (s.figures b.second) (s.figures c.second))) e ∙ sym (order_halves b c)
 
   room_first : (k : ℕ) (c : PairCost A B) → Takes (both r s) k c → Takes r k c.first
   room_first k c room = omega arith

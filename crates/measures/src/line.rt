@@ -16,9 +16,7 @@ pub fn tell_figure(figure: u32, line: &mut [u32]) -> Result<usize, Refusal>
     ensures answer { result ≡ left 1 (length line.old) }
     ensures line { line.new ≡ told 1 (figure ∷ []) line.old }
 {
-    let Some((first, behind)) = line.split_first_mut() else {
-        return Err(Refusal::ShortFigureLine);
-    };
+    let (first, behind) = line.split_first_mut().ok_or(Refusal::ShortFigureLine)?;
     *first = figure;
     Ok(behind.len())
 }

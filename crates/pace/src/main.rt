@@ -63,8 +63,7 @@ fn scatter(moves: &mut [Move]) {
     let mut seed: u32 = 1;
     for slot in moves {
         seed = seed.wrapping_mul(1103515245).wrapping_add(12345);
-        // A number below 13, so nothing is lost; a checked conversion would want a second case.
-        if let Some(by) = Move::new(((seed / 65536) % 13) as u8) {
+        if let Some(by) = u8::try_from((seed / 65536) % 13).ok().and_then(Move::new) {
             *slot = by;
         }
     }

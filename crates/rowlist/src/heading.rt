@@ -9,7 +9,7 @@ use text::limit::CHART_LIMIT;
 use text::range_line::range_line;
 
 // The voices, and the body of the chart: the bytes behind the line.
-#[derive(Clone, Copy)]
+#[derive(Clone, Copy, Debug)]
 pub struct Heading<'a> {
     pub voices: Voices,
     pub body: &'a [u8],

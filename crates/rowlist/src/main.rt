@@ -24,8 +24,7 @@ const MOST_BYTES: usize = 1536;
 
 // Prints a symbol with its number of rows and each row, or with its refusal.
 fn list(rt: &(impl Print + AllocGlobal), voices: &Voices, symbol: &[u8]) -> io::Result<()> {
-    // the rows are written to memory that is lent: the libraries have no heap
-    let mut table = [0; MOST_BYTES];
+    let mut table = vec![in rt.alloc(); 0; MOST_BYTES]?;
     let mut page = String::new(rt.alloc());
     match find_rows(voices, symbol, &mut table) {
         Ok(rows) => {

@@ -7,7 +7,7 @@ use Rattle.harmony.specs.declared.refusal.Refusal.TheVariants.{NoRow, TooManyRow
 use Rattle.rows.specs.Arrangements.{inside, within}
 use Rattle.rows.specs.Enumeration.{In, rows}
 use Rattle.rows.specs.Growth.{Completed, laid, placed}
-use Rattle.rows.specs.Tables.{all_few, all_some, count_unless, counted, flat, together}
+use Rattle.rows.specs.Tables.{all_few, all_some, count_unless, counted, flat, together, written}
 use Rattle.rows.proofs.Meaning.{meant}
 use Rattle.std.proofs.lemmas.List.{drop_at, drop-drop, length-append, length-drop, take_at}
 use Rattle.std.proofs.lemmas.Bool.{and_parts, cond-true, false≢true, le-leb, leb-true}
@@ -61,9 +61,10 @@ counted_parts rss k e = parts (all_some rss) (all_few rss) e
     parts false b e = let z : ◌≡◌ {A = ℕ} 0 1 = cc in absurd (omega arith)
 
 -- a search that finds the rows of one chord, which were counted, has written them
-pub found_written : (n : ℕ) (rs : List (List ℕ)) (part after : List ℕ) (k : ℕ) (r : Result ℕ Refusal) → AllByRecursion (λ row. length row ≡ n) rs → counted (rs ∷ []) ≡ Ok k → k * n ≤ length part → Completed n 0 rs part after r → after ≡ flat rs ++ drop (k * n) part
-found_written n rs part after k (Err e) widths was room done =
+pub found_table : (n : ℕ) (rs : List (List ℕ)) (part after : List ℕ) (k : ℕ) (r : Result ℕ Refusal) → AllByRecursion (λ row. length row ≡ n) rs → counted (rs ∷ []) ≡ Ok k → k * n ≤ length part → Completed n 0 rs part after r → after ≡ written n rs part r
+found_table n rs part after k (Err e) widths was room done =
     absurd (omega (arith, done.1, leb-true (length rs) 256 (and_parts (leb (length rs) 256) true (counted_parts (rs ∷ []) k was).1).0))
-found_written n rs part after k (Ok j) widths was room done =
+found_table n rs part after k (Ok j) widths was room done =
     let one : k ≡ length rs = (counted_parts (rs ∷ []) k was).2 ∙ ap length (append-nil rs) in
-    done.2 ∙ laid_all n part rs widths (subst (λ m. m * n ≤ length part) one room) ∙ ap (λ m. flat rs ++ drop (m * n) part) (sym one)
+    let all : length rs ≡ j = omega (arith, done.0) in
+    done.2 ∙ laid_all n part rs widths (subst (λ m. m * n ≤ length part) one room) ∙ ap (λ m. flat rs ++ drop (m * n) part) all

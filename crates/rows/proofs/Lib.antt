@@ -7,4 +7,3 @@ pub mod Growing
 pub mod Meaning
 pub mod Members
 pub mod Order
-pub mod Written

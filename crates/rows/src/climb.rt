@@ -9,15 +9,15 @@ use harmony::chord::Chord;
 use harmony::pitch::{Pitch, PitchClass};
 
 // What a voice stands on: the lowest one on the bass class, any other on the pitch of the voice below.
-#[derive(Clone, Copy)]
+#[derive(Clone, Copy, Debug, PartialEq, Eq)]
 pub(crate) enum Footing {
     Bass(PitchClass),
     Above(Pitch),
 }
 
 // The pitches sung so far, and what of the chord's counts is left to sing.
-// An array with its number beside it: a climb is copied at each step, and an `ArrayVec` is not `Copy`.
-#[derive(Clone, Copy)]
+// An array with its number beside it: a climb is copied at each step, where an `ArrayVec` would be cloned.
+#[derive(Clone, Copy, Debug)]
 pub(crate) struct Climb {
     pub(crate) pitches: [Pitch; 6],
     pub(crate) voices: usize,

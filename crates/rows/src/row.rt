@@ -12,12 +12,13 @@ use harmony::range::Range;
 use harmony::refusal::Refusal;
 
 // The pitches are as many as the ranges; what stands behind them means nothing.
-// An array and no `ArrayVec`, which is not `Copy`: a row is.
-#[derive(Clone, Copy)]
+// An array, since the type is `Copy` for callers, as an `ArrayVec` is not.
+#[derive(Clone, Copy, Debug)]
 pub struct Row<'a> {
     pub(crate) ranges: &'a [Range],
     pub(crate) chord: &'a Chord,
     pub(crate) pitches: [Pitch; 6],
+    ghost full: { length pitches ≡ 6 },
     ghost few: { length ranges.now ≤ 6 },
     ghost ranged: { inside (map bounds ranges.now) (semitones_of (length ranges.now) pitches) ≡ true },
     ghost ascending: { ascends (semitones_of (length ranges.now) pitches) ≡ true },
@@ -33,10 +34,8 @@ impl Row<'_> {
         if part.len() < voices {
             return Err(Refusal::ShortRowTable);
         }
-        // by index, since behind a zip with `iter_mut` nothing is known of what was written
-        for (voice, pitch) in self.pitches[..voices].iter().enumerate() {
-            part[voice] = pitch.semitones();
-        }
+        let semitones = self.pitches.map(|pitch| pitch.semitones());
+        part[..voices].copy_from_slice(&semitones[..voices]);
         Ok(voices)
     }
 }

@@ -17,7 +17,7 @@ use harmony::refusal::Refusal;
 use harmony::voices::Voices;
 
 // What rows are sought for: the ranges of the voices, and the chord.
-#[derive(Clone, Copy)]
+#[derive(Clone, Copy, Debug)]
 struct Search<'a> {
     ranges: &'a [Range],
     chord: &'a Chord,
@@ -63,7 +63,7 @@ impl Search<'_> {
     }
 }
 
-// All rows of a chord, put into the table as far as there is room for them, and how many they are.
+// All rows of a chord, put into the table as far as there is room for them, and how many they are. What they mean is said here once for `count` and `write`, which promise it.
 pub(crate) fn find(voices: &Voices, chord: &Chord, table: &mut [u8]) -> Result<usize, Refusal>
     ensures found { Completed voices.now.count.number 0 (rows_for voices.now chord.now) table.old table.new result }
     ensures meaning { Meant (ranges_of voices.now) (harmony chord.now) }

@@ -23,15 +23,6 @@ pub fn count(voices: &Voices, chord: &Chord) -> Result<usize, Refusal>
     Ok(rows)
 }
 
-// Writes the rows of a chord, which were counted, to the front of a part that holds them.
-fn put(voices: &Voices, chord: &Chord, part: &mut [u8], rows: usize)
-    requires was { counted (rows_for voices.now chord.now ∷ []) ≡ Ok rows }
-    requires room { rows * voices.now.count.number ≤ length part.old }
-    ensures { part.new ≡ flat (rows_for voices.now chord.now) ++ drop (rows * voices.now.count.number) part.old }
-{
-    find(voices, chord, part).unwrap();
-}
-
 // Writes the rows of a chord, in order, to the front of a part of a row table, and answers how many they are.
 pub fn write(voices: &Voices, chord: &Chord, part: &mut [u8]) -> Result<usize, Refusal>
     ensures answer { result ≡ with_room voices.now.count.number (length part.old) (counted (rows_for voices.now chord.now ∷ [])) }
@@ -42,6 +33,5 @@ pub fn write(voices: &Voices, chord: &Chord, part: &mut [u8]) -> Result<usize, R
     if part.len() < rows * voices.count().number() {
         return Err(Refusal::ShortRowTable);
     }
-    put(voices, chord, part, rows);
-    Ok(rows)
+    find(voices, chord, part)
 }

@@ -20,7 +20,7 @@ impl Numeral {
         }
     }
 
-    // Takes the byte in at the end, where it is a digit and there is room for it; whether it did.
+    // Takes the byte in at the end, where it is a digit and there is room for it; whether it did, as a set's `insert` says.
     pub fn push(&mut self, byte: u8) -> bool
         ensures { MatchBool result (pushed (digits self.old) byte ≡ Some (digits self.new)) ((pushed (digits self.old) byte ≡ None) × (self.new ≡ self.old)) }
     {

@@ -13,7 +13,7 @@ use harmony::refusal::Refusal;
 use harmony::voices::Voices;
 
 // The number of ranges in the line, the first six of them, and the offset of the byte behind the line feed.
-// It is copied, as an `ArrayVec` is not, and there may be more ranges than the array has.
+// An array, since the type is `Copy` for callers, as an `ArrayVec` is not; and there may be more ranges than it has.
 #[derive(Clone, Copy, Debug)]
 pub struct RangeLine {
     count: usize,

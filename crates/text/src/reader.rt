@@ -6,7 +6,7 @@ ghost use Rattle.text.specs.Tokens.{blank, in_symbol, left_from};
 
 use crate::token::Token;
 
-// The text, and the offset of the first byte not yet read.
+// The text, and the offset of the first byte not yet read. No model: a type that is copied and has a lifetime can have none.
 #[derive(Clone, Copy, Debug)]
 pub struct Reader<'a> {
     text: &'a [u8],

@@ -54,7 +54,7 @@ impl Symbol {
 }
 
 impl Chord {
-    // The chord that a symbol's text names in so many voices, or the first condition that it breaks.
+    // The chord that a symbol's text names in so many voices, or the first condition that it breaks; by name, as `Symbol::read`.
     pub fn read(symbol: &[u8], voices: VoiceCount) -> Result<Chord, Refusal>
         ensures { result_map harmony result ≡ chord_of symbol.now voices.number }
     {

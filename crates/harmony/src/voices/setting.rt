@@ -75,7 +75,7 @@ impl Voices {
     pub fn new(within: &[Bounds]) -> Result<Voices, Refusal>
         ensures { result_map ranges_of result ≡ voices_of within.now }
     {
-        let count = VoiceCount::new(within.len()).ok_or(Refusal::VoiceNumber)?;
+        let count = VoiceCount::try_from(within.len())?;
         let ranges = ranges_within(within)?;
         if !rises(within) {
             return Err(Refusal::FallingRange);

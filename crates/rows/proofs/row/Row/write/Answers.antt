@@ -1,14 +1,13 @@
-use Rattle.std.proofs.Common.{◌≡◌, ◌+◌, ◌++◌, length, set, drop, sym, ◌∙◌, subst, arith}
-use Rattle.std.proofs.lemmas.List.{get_or-take}
-use Rattle.rows.specs.Arrangements.{semitones_of}
-use Rattle.rows.proofs.Written.{written_more}
+use Rattle.std.proofs.Common.{◌≡◌, ◌++◌, map, length, take, drop, refl, ap, ◌∙◌, arith, rules}
+use Rattle.std.specs.List.{take-map}
+use Rattle.harmony.proofs.Mapped.{mapped_all}
 use Rattle.rows.proofs.row.Row.write.Goals as goal
 
-pub loop-voice-preserved : goal.loop-voice-preserved
-loop-voice-preserved c =
+pub returns : goal.returns
+returns c =
     let row = c.args.self.now in
-    let i = c.loop-voice.voice in
-    let here = sym (c.pitch-item.is ∙ get_or-take (length row.ranges.now) row.pitches i c.pitch-item.result (omega arith)) in
-    rw c.semitones.ensures
-    (subst (λ p. set c.loop-voice.part i p.semitones ≡ semitones_of (i + 1) row.pitches ++ drop (i + 1) c.args.part.now) here
-    (written_more (λ p. p.semitones) row.pitches c.loop-voice.part c.args.part.now i c.pitch-item.result (omega (arith, row.few)) (omega arith) c.loop-voice.invariant))
+    let n = length row.ranges.now in
+    let told = c.map-semitones.ensures.items in
+    let all : c.map-semitones.result ≡ map (λ p. p.semitones) row.pitches =
+    mapped_all (λ p. p.semitones) row.pitches c.map-semitones.result (omega (arith, told.long, row.full)) (λ i d h. let k = told.at i d 0 (omega (arith, h, row.full)) in search rules) in
+    (refl, omega arith, ap (λ t. t ++ drop n c.args.part.now) (c.copy_from_slice.ensures.after ∙ ap (take n) all ∙ take-map (λ p. p.semitones) n row.pitches))

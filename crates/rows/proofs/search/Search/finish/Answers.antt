@@ -1,4 +1,4 @@
-use Rattle.std.proofs.Common.{◌≡◌, true, [], ◌∷◌, map, length, sym, ap, ◌∙◌, subst, arith}
+use Rattle.std.proofs.Common.{◌≡◌, true, [], ◌∷◌, map, length, sym, ap, ◌∙◌, subst, arith, rules}
 use Rattle.harmony.specs.Chords.{harmony}
 use Rattle.harmony.specs.Ranges.{bounds}
 use Rattle.rows.specs.Arrangements.{IsRow, semitones_of}
@@ -27,7 +27,7 @@ invariant_of-row c =
     let row : IsRow vs (harmony chord) (semitones_of (length ranges) climb.pitches) =
     subst (λ n. IsRow vs (harmony chord) (semitones_of n climb.pitches)) c.requires.top
     (row_at_top chosen (footing_of climb.footing) climb.left vs (harmony chord) chord.full sung (λ ps h. c.requires.sought ps (subst (In ps) (sym top) h))) in
-    record { few = c.args.self.now.few; ranged = row.arranged.ranges; ascending = row.ascending; classes = row.arranged.classes }
+    record { full = search rules; few = c.args.self.now.few; ranged = row.arranged.ranges; ascending = row.ascending; classes = row.arranged.classes }
 
 pub returns-clause-found : goal.returns-clause-found
 returns-clause-found c =
