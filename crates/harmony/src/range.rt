@@ -33,7 +33,7 @@ impl From<[u8; 2]> for Bounds {
     }
 }
 
-// The pitch of a bound.
+// The pitch of a bound: private, where a `TryFrom` would stand beside `Pitch::new` for all.
 fn pitch(semitones: u16) -> Option<Pitch>
     ensures { MatchOption result (127 < semitones) (λ p. p.semitones ≡ semitones) }
 {

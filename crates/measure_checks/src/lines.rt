@@ -17,7 +17,7 @@ struct Written {
     line: [u32; 26],
 }
 
-// What is left of a line, or the number of the refusal.
+// What is left of a line, or the number of the refusal. Each crate of tests has this line for itself.
 fn answer(left: Result<usize, Refusal>) -> Result<usize, u8> {
     left.map_err(|refusal| refusal.notice().number)
 }

@@ -4,7 +4,7 @@ ghost use Rattle.measures.specs.Parts.{left, told};
 
 use harmony::refusal::Refusal;
 
-// How many numbers a line of this length has left behind that many figures.
+// How many numbers a line of this length has left behind that many figures. The `fit` of a measure of its own is this call with its width, and nothing to share.
 pub fn left_behind(width: usize, length: usize) -> Result<usize, Refusal>
     ensures { result ≡ left width length }
 {

@@ -10,6 +10,7 @@ use harmony::refusal::Refusal;
 pub const MOST_ROWS: usize = 256;
 
 // How many rows were found, and the table that holds those that it has room for.
+// Each call that takes it says that it lends the same table still, as the language asks where a type keeps a `&mut`.
 #[derive(Drop)]
 pub(crate) struct Found<'t> {
     pub(crate) table: &'t mut [u8],

@@ -40,6 +40,7 @@ fn add_up(voices: &Voices, chords: &[Chord], room: usize) -> Result<usize, Refus
 {
     let width = voices.count().number();
     let mut total = 0;
+    // counted down, since the bytes of all rows might pass a machine number
     let mut free = room;
     for chord in chords {
         let rows = rows_of(voices, chord);
