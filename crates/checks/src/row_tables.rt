@@ -18,7 +18,7 @@ fn voices(bytes: &[u8]) -> Result<Voices, Fail> {
     Ok(Voices::from_bytes(bytes)?)
 }
 
-// What a call answered: the number of rows, or the number of its refusal. Each crate of tests has this line for itself.
+// What a call answered: the number of rows, or the number of its refusal.
 fn answer(res: Result<usize, Refusal>) -> Result<usize, u8> {
     res.map_err(|refusal| refusal.notice().number)
 }

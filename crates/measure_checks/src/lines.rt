@@ -1,5 +1,4 @@
 // Lines of figures: one too short, exact, and longer; and the order of costs.
-use harmony::refusal::Refusal;
 use house::largest::Largest;
 use house::named::{HouseMeasure, SUM_THEN_LARGEST};
 use house::table::CountTable;
@@ -17,17 +16,13 @@ struct Written {
     line: [u32; 26],
 }
 
-// What is left of a line, or the number of the refusal. Each crate of tests has this line for itself.
-fn answer(left: Result<usize, Refusal>) -> Result<usize, u8> {
-    left.map_err(|refusal| refusal.notice().number)
-}
-
 // Tells the moves 3, 24, 1 and 1 into so many of 26 sevens; none where there are not so many, or where fit answers something else.
 fn told<M: Measure>(measure: &M, length: usize) -> Option<Written> {
     let mut line = [7; 26];
     let cost = total(measure, &[3, 24, 1, 1]);
-    let left = answer(measure.tell(&cost, line.get_mut(0..length)?));
-    (left == answer(measure.fit(length))).then_some(Written { left, line })
+    let answer = measure.tell(&cost, line.get_mut(0..length)?);
+    let left = answer.map_err(|refusal| refusal.notice().number);
+    (answer == measure.fit(length)).then_some(Written { left, line })
 }
 
 // 26 sevens with these figures at their front.
