@@ -28,7 +28,7 @@ pub struct Tones {
 }
 
 impl Quality {
-    // The text that names it in a symbol.
+    // The text that names it in a symbol: bytes, as the symbol is, where `Display` would write text.
     pub fn name(self) -> &'static [u8]
         ensures { result.now ≡ name_of self }
     {

@@ -71,7 +71,7 @@ fn high_step(low: u16, mut number: Numeral, byte: u8) -> Option<Step>
 }
 
 impl Place {
-    // What the byte does here; none where it is out of place.
+    // What the byte does here; none where it is out of place. A match, since each place holds what was read in it: no table of steps would be plainer.
     pub fn step(self, byte: u8) -> Option<Step>
         ensures { option_map step_of result ≡ step (place_of self) byte }
     {
