@@ -5,7 +5,6 @@
 -- placed      a table after a row was put at place k among rows of width n, where there is room for it
 -- laid        a table after rows were put there one behind the other, from place k on
 -- Completed   what is answered where these rows were found, behind k that came before
--- reached     the number of rows come to, where there are not too many
 use Rattle.std.specs.Prelude.{◌≡◌, ℕ, ◌+◌, ◌*◌, ◌<◌, ◌≤◌, cond, List, [], ◌∷◌, ◌++◌, length, take, drop, Ok, Err, Result, nat_le}
 use Rattle.harmony.specs.Pitches.{class}
 use Rattle.harmony.specs.declared.range.Bounds.{Bounds}
@@ -36,7 +35,3 @@ laid n table k (r ∷ rs) = laid n (placed n table k r) (k + 1) rs
 abbrev pub Completed : ℕ → ℕ → List (List ℕ) → List ℕ → List ℕ → Result ℕ Refusal → Type 0
 Completed n k found table after (Ok rows) = (rows ≡ k + length found) × (rows ≤ 256) × (after ≡ laid n table k found)
 Completed n k found table after (Err e) = (e ≡ TooManyRows) × (256 < k + length found)
-
-abbrev pub reached : ℕ → Result (Unit {0}) Refusal → Result ℕ Refusal
-reached rows (Ok _) = Ok rows
-reached rows (Err e) = Err e

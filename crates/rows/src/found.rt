@@ -1,7 +1,8 @@
 // The rows found so far, put into a table one behind the other.
-ghost use Rattle.std.specs.Prelude.{◌≡◌, ◌≤◌, [], ◌∷◌, length};
+ghost use Rattle.std.specs.Prelude.{◌≡◌, ◌≤◌, [], ◌∷◌, length, OnErr};
+ghost use Rattle.harmony.specs.Results.{result_map};
 ghost use Rattle.rows.specs.Arrangements.{semitones_of};
-ghost use Rattle.rows.specs.Growth.{Completed, placed, reached};
+ghost use Rattle.rows.specs.Growth.{Completed, placed};
 
 use crate::row::Row;
 use harmony::refusal::Refusal;
@@ -22,7 +23,8 @@ impl Found<'_> {
     // One row more; past the most rows there is none.
     pub(crate) fn push(&mut self, row: &Row) -> Result<(), Refusal>
         ensures same { self.new.table.ghost_name ≡ self.old.table.ghost_name }
-        ensures found { Completed (length row.now.ranges.now) self.old.rows (semitones_of (length row.now.ranges.now) row.now.pitches ∷ []) self.old.table.now self.new.table.now (reached self.new.rows result) }
+        ensures found { Completed (length row.now.ranges.now) self.old.rows (semitones_of (length row.now.ranges.now) row.now.pitches ∷ []) self.old.table.now self.new.table.now (result_map (λ _. self.new.rows) result) }
+        ensures stays { OnErr result ((self.new.rows ≡ self.old.rows) × (self.new.table.now ≡ self.old.table.now)) }
     {
         if self.rows >= MOST_ROWS {
             return Err(Refusal::TooManyRows);

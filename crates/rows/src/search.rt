@@ -2,9 +2,10 @@
 ghost use Rattle.std.specs.Prelude.{◌≡◌, ◌≤◌, map, length};
 ghost use Rattle.harmony.specs.Chords.{harmony};
 ghost use Rattle.harmony.specs.Ranges.{bounds};
+ghost use Rattle.harmony.specs.Results.{result_map};
 ghost use Rattle.harmony.specs.VoiceRanges.{ranges_of};
 ghost use Rattle.rows.specs.Enumeration.{Meant};
-ghost use Rattle.rows.specs.Growth.{Completed, reached};
+ghost use Rattle.rows.specs.Growth.{Completed};
 ghost use Rattle.rows.specs.Searches.{Sought, rows_beyond};
 ghost use Rattle.rows.specs.Tables.{rows_for};
 
@@ -30,7 +31,7 @@ impl Search<'_> {
         requires top { climb.voices ≡ length self.now.ranges.now }
         requires sought { Sought (map bounds self.now.ranges.now) (harmony self.now.chord.now) (rows_beyond (map bounds self.now.ranges.now) climb) }
         ensures same { found.new.table.ghost_name ≡ found.old.table.ghost_name }
-        ensures found { Completed (length self.now.ranges.now) found.old.rows (rows_beyond (map bounds self.now.ranges.now) climb) found.old.table.now found.new.table.now (reached found.new.rows result) }
+        ensures found { Completed (length self.now.ranges.now) found.old.rows (rows_beyond (map bounds self.now.ranges.now) climb) found.old.table.now found.new.table.now (result_map (λ _. found.new.rows) result) }
     {
         if !climb.is_sung() {
             return Ok(());
@@ -49,7 +50,7 @@ impl Search<'_> {
         requires under { climb.voices ≤ length self.now.ranges.now }
         requires sought { Sought (map bounds self.now.ranges.now) (harmony self.now.chord.now) (rows_beyond (map bounds self.now.ranges.now) climb) }
         ensures same { found.new.table.ghost_name ≡ found.old.table.ghost_name }
-        ensures found { Completed (length self.now.ranges.now) found.old.rows (rows_beyond (map bounds self.now.ranges.now) climb) found.old.table.now found.new.table.now (reached found.new.rows result) }
+        ensures found { Completed (length self.now.ranges.now) found.old.rows (rows_beyond (map bounds self.now.ranges.now) climb) found.old.table.now found.new.table.now (result_map (λ _. found.new.rows) result) }
     {
         let Some(range) = self.ranges.get(climb.voices) else {
             return self.finish(climb, found);

@@ -1,8 +1,9 @@
 use Rattle.std.proofs.Common.{ℕ, List, map, Err, subst, rules}
 use Rattle.harmony.specs.Chords.{harmony}
 use Rattle.harmony.specs.Ranges.{bounds}
+use Rattle.harmony.specs.Results.{result_map}
 use Rattle.rows.specs.Enumeration.{In}
-use Rattle.rows.specs.Growth.{Completed, footing_of, reached}
+use Rattle.rows.specs.Growth.{Completed, footing_of}
 use Rattle.rows.proofs.Growing.{found_for, grown_start}
 use Rattle.rows.proofs.Meaning.{meant}
 use Rattle.rows.proofs.search.find.Goals as goal
@@ -17,7 +18,7 @@ complete-requires-clause-sought c =
 pub returns-clause-found : goal.returns-clause-found
 returns-clause-found c =
     let after = c.complete.new.found in
-    let P : ℕ → List (List ℕ) → Type 0 = λ n rs. Completed n 0 rs c.args.table.now after.table.now (reached after.rows c.complete.result) in
+    let P : ℕ → List (List ℕ) → Type 0 = λ n rs. Completed n 0 rs c.args.table.now after.table.now (result_map (λ _. after.rows) c.complete.result) in
     let done = found_for P c.args.voices.now c.args.chord.now c.ranges-2.result.now c.start.result c.ranges-2.ensures c.start.ensures c.complete.ensures.found in
     search (rules, done, c.in_ok-complete.was)
 
@@ -25,7 +26,7 @@ pub returns-in_err-complete-clause-found : goal.returns-in_err-complete-clause-f
 returns-in_err-complete-clause-found c =
     let after = c.complete.new.found in
     let p = err_from_is_err_and c.from_residual.result c.from_residual.ensures.1 in
-    let P : ℕ → List (List ℕ) → Type 0 = λ n rs. Completed n 0 rs c.args.table.now after.table.now (reached after.rows (Err c.in_err-complete.field-0.0)) in
+    let P : ℕ → List (List ℕ) → Type 0 = λ n rs. Completed n 0 rs c.args.table.now after.table.now (Err c.in_err-complete.field-0.0) in
     rw (p.1, p.2) (found_for P c.args.voices.now c.args.chord.now c.ranges-2.result.now c.start.result c.ranges-2.ensures c.start.ensures c.in_err-complete.ensures.found)
 
 pub returns-clause-meaning : goal.returns-clause-meaning

@@ -1,9 +1,10 @@
 use Rattle.std.proofs.Common.{◌≡◌, true, [], ◌∷◌, map, length, sym, ap, ◌∙◌, subst, arith, rules}
 use Rattle.harmony.specs.Chords.{harmony}
 use Rattle.harmony.specs.Ranges.{bounds}
+use Rattle.harmony.specs.Results.{result_map}
 use Rattle.rows.specs.Arrangements.{IsRow, semitones_of}
 use Rattle.rows.specs.Enumeration.{In, all_zero}
-use Rattle.rows.specs.Growth.{Completed, footing_of, reached}
+use Rattle.rows.specs.Growth.{Completed, footing_of}
 use Rattle.rows.specs.Searches.{rows_beyond}
 use Rattle.rows.proofs.Completing.{grown_top}
 use Rattle.rows.proofs.Growing.{completed_none, grown_one, row_at_top}
@@ -38,5 +39,5 @@ returns-clause-found c =
     let one : rows_beyond (map bounds ranges) climb ≡ semitones_of (length ranges) climb.pitches ∷ [] =
     grown_top ranges climb.voices chosen (footing_of climb.footing) climb.left (omega (arith, c.requires.top)) ∙ grown_one chosen (footing_of climb.footing) climb.left sung
     ∙ ap (λ n. semitones_of n climb.pitches ∷ []) c.requires.top in
-    subst (λ rs. Completed (length ranges) c.args.found.now.rows rs c.args.found.now.table.now c.push.new.self.table.now (reached c.push.new.self.rows c.push.result)) (sym one)
+    subst (λ rs. Completed (length ranges) c.args.found.now.rows rs c.args.found.now.table.now c.push.new.self.table.now (result_map (λ _. c.push.new.self.rows) c.push.result)) (sym one)
     c.push.ensures.found
