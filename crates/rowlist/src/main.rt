@@ -7,7 +7,7 @@ mod listing;
 
 use harmony::voices::Voices;
 use heading::{Heading, read_heading};
-use input::read_front;
+use input::fill;
 use listing::{add_row, find_rows};
 use std::fmt::Write as _;
 use std::io;
@@ -19,12 +19,12 @@ use text::token::Token;
 // One byte more than a chart may have, to tell that one is too long.
 const MOST_READ: usize = CHART_LIMIT + 1;
 
-// The most bytes that the rows of a chord take: 256 rows of six pitches.
+// The most bytes that the rows of a chord take: 256 rows of six pitches. They and the input lie on the stack, so that a chart is read and refused without heap.
 const MOST_BYTES: usize = 1536;
 
 // Prints a symbol with its number of rows and each row, or with its refusal.
 fn list(rt: &(impl Print + AllocGlobal), voices: &Voices, symbol: &[u8]) -> io::Result<()> {
-    let mut table = vec![in rt.alloc(); 0; MOST_BYTES]?;
+    let mut table = [0; MOST_BYTES];
     let mut page = String::new(rt.alloc());
     match find_rows(voices, symbol, &mut table) {
         Ok(rows) => {
@@ -51,8 +51,9 @@ fn list_body(rt: &(impl Print + AllocGlobal), heading: &Heading) -> io::Result<(
 }
 
 fn main(rt: HostRuntime) -> io::Result<()> {
-    let chart = read_front(rt.alloc(), rt.stdin(), MOST_READ)?;
-    match read_heading(&chart) {
+    let mut buffer = [0; MOST_READ];
+    let length = fill(&mut rt.stdin(), &mut buffer)?;
+    match read_heading(&buffer[..length]) {
         Ok(heading) => list_body(&rt, &heading),
         Err(refusal) => println!(rt; "refused {} at 0", refusal.notice().number),
     }
