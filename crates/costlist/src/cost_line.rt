@@ -6,14 +6,17 @@ use house::named::HouseMeasure;
 use std::fmt::Write;
 use std::io;
 
+// The most figures that a cost has: room on the stack, so that a line takes no heap for them.
+const MOST_FIGURES: usize = 24;
+
 // Adds what these numbers cost to a page, on a line of its own.
 pub fn add_cost(page: &mut String, measure: HouseMeasure, numbers: &[u8]) -> io::Result<()>
     ensures { OnOk result (string_bytes page.new ≡ string_bytes page.old ++ cost_line measure numbers.now) }
 {
-    let mut line = vec![in *page.allocator(); 0; measure.width()]?;
+    let mut line = [0; MOST_FIGURES];
     let moves = measure.tell(numbers, &mut line).unwrap();
     write!(page, "{measure} moves {moves} figures")?;
-    add_figures(page, &line)?;
+    add_figures(page, &line[..measure.width()])?;
     page.push('\n')?;
     Ok(())
 }

@@ -49,10 +49,16 @@ impl From<UnknownLetter> for RequestError<'_> {
 }
 
 // The request of a line; a word that is no number is told before a letter that no measure has.
+// One loop over all words: where the next word is asked for in two places, the search for it is a call each time.
 pub(crate) fn read_request(alloc: Global, text: &str) -> Result<Request, RequestError> {
-    let mut words = text.split(' ');
-    let measure = words.next().ok_or(UnknownLetter).and_then(measure_of);
-    let numbers = words.map(number_of).try_collect(alloc)?;
+    let mut measure = Err(UnknownLetter);
+    let mut numbers = Vec::new(alloc);
+    for (place, word) in text.split(' ').enumerate() {
+        match place {
+            0 => measure = measure_of(word),
+            _ => numbers.push(number_of(word)?).map_err(AllocError::from)?,
+        }
+    }
     Ok(Request {
         measure: measure?,
         numbers,
