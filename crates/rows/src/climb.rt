@@ -53,8 +53,9 @@ impl Climb {
     }
 
     // The climb with this pitch for the next voice, where its footing bears it and its class is still to be sung.
-    pub(crate) fn with(self, semitones: u8) -> Option<Climb>
-        ensures { MatchOption result ((self.voices < 6 → semitones ≤ 127 → may (footing_of self.footing) self.left semitones ≡ false)) (λ up. (may (footing_of self.footing) self.left semitones ≡ true) × (up.voices ≡ self.voices + 1) × (semitones_of up.voices up.pitches ≡ semitones_of self.voices self.pitches ++ semitones ∷ []) × (footing_of up.footing ≡ above semitones) × (up.left ≡ less self.left (class semitones))) }
+    // It is lent: most pitches are refused, and a climb passed by value would be copied for each.
+    pub(crate) fn with(&self, semitones: u8) -> Option<Climb>
+        ensures { MatchOption result ((self.now.voices < 6 → semitones ≤ 127 → may (footing_of self.now.footing) self.now.left semitones ≡ false)) (λ up. (may (footing_of self.now.footing) self.now.left semitones ≡ true) × (up.voices ≡ self.now.voices + 1) × (semitones_of up.voices up.pitches ≡ semitones_of self.now.voices self.now.pitches ++ semitones ∷ []) × (footing_of up.footing ≡ above semitones) × (up.left ≡ less self.now.left (class semitones))) }
     {
         let pitch = Pitch::new(semitones)?;
         let class = usize::from(pitch.class().index());

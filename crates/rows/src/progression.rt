@@ -53,17 +53,18 @@ fn add_up(voices: &Voices, chords: &[Chord], room: usize) -> Result<usize, Refus
     Ok(total)
 }
 
-// Writes the rows of chords that are not refused, one after the other, into a table that they fill.
-fn fill(voices: &Voices, chords: &[Chord], table: &mut [u8])
+// Writes the rows of chords that are not refused, one after the other, to the front of a table that holds them.
+fn fill(voices: &Voices, chords: &[Chord], table: &mut [u8], end: usize)
     requires accepted { refused_first true (rows_of_each voices.now chords.now) ≡ None }
-    requires whole { length table.old ≡ length (together (rows_of_each voices.now chords.now)) * voices.now.count.number }
-    ensures { table.new ≡ flat (together (rows_of_each voices.now chords.now)) }
+    requires whole { end ≡ length (together (rows_of_each voices.now chords.now)) * voices.now.count.number }
+    requires room { end ≤ length table.old }
+    ensures { table.new ≡ flat (together (rows_of_each voices.now chords.now)) ++ drop end table.old }
 {
     let width = voices.count().number();
-    // the part behind is handed on for each chord in turn
     let mut from = 0;
     for chord in chords {
-        let rows = write(voices, chord, &mut table[from..]).unwrap();
+        // the middle part, behind the rows so far and before what is no one's, is handed on for each chord in turn
+        let rows = write(voices, chord, &mut table[from..end]).unwrap();
         from += rows * width;
     }
 }
@@ -76,6 +77,6 @@ pub fn write_all(voices: &Voices, chords: &[Chord], table: &mut [u8]) -> Result<
     accept(voices, chords)?;
     let rows = add_up(voices, chords, table.len())?;
     let end = rows * voices.count().number();
-    fill(voices, chords, &mut table[..end]);
+    fill(voices, chords, table, end);
     Ok(rows)
 }

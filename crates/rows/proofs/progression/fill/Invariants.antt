@@ -7,4 +7,4 @@ abbrev pub invariant-loop-chord : goal.invariant-loop-chord
 invariant-loop-chord l =
     (l.from ≡ length (upto l.voices l.chords l.chord-index) * l.voices.count.number)
     × (l.table ≡ flat (upto l.voices l.chords l.chord-index) ++ drop l.from l.initial.table)
-    × (l.from ≤ length l.initial.table)
+    × (l.from ≤ l.end)
