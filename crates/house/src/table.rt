@@ -8,7 +8,7 @@ use harmony::refusal::Refusal;
 use measures::content::held;
 use measures::costs::Costs;
 use measures::line::left_behind;
-use measures::measure::Measure;
+use measures::measure::{MOST_MOVES, Measure};
 use measures::strict::StrictMeasure;
 use std::cmp::Ordering;
 
@@ -40,6 +40,10 @@ impl Costs for CountTable {
     }
 
     fn count(&self, cost: &TableCost) -> u16 {
+        // the number first: of a full cost the counts say nothing more, and adding them up takes longest
+        if cost.moves >= MOST_MOVES {
+            return MOST_MOVES;
+        }
         let counted: u32 = cost.counts.iter().map(|count| u32::from(*count)).sum();
         held(counted <= u32::from(cost.moves), cost.moves)
     }
@@ -54,7 +58,10 @@ impl Costs for CountTable {
 
     fn tell(&self, cost: &TableCost, line: &mut [u32]) -> Result<usize, Refusal> {
         let left = left_behind(WIDTH, line.len())?;
-        line[..WIDTH].copy_from_slice(&cost.counts.map(|count| u32::from(count)));
+        // by index: `map` of an array makes an option of each count, and behind a zip with `iter_mut` nothing is known of what was written
+        for (i, count) in cost.counts.iter().enumerate() {
+            line[i] = u32::from(*count);
+        }
         Ok(left)
     }
 }

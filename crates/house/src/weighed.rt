@@ -8,7 +8,7 @@ use harmony::refusal::Refusal;
 use measures::content::held;
 use measures::costs::Costs;
 use measures::line::{left_behind, tell_figure};
-use measures::measure::Measure;
+use measures::measure::{MOST_MOVES, Measure};
 use measures::strict::StrictMeasure;
 use std::cmp::Ordering;
 
@@ -50,6 +50,10 @@ impl<W: Weight> Costs for Weighed<W> {
     }
 
     fn count(&self, cost: &SumCost) -> u16 {
+        // the number first: of a full cost the sum says nothing more
+        if cost.moves >= MOST_MOVES {
+            return MOST_MOVES;
+        }
         let widest = u32::from(self.weight.of(Move::WIDEST));
         held(cost.sum <= widest * u32::from(cost.moves), cost.moves)
     }

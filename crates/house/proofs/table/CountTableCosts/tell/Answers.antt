@@ -1,14 +1,10 @@
-use Rattle.std.proofs.Common.{◌≡◌, ◌∙◌, arith, rules}
-use Rattle.harmony.proofs.Mapped.{mapped_all}
-use Rattle.std.proofs.lemmas.List.{map-id}
+use Rattle.std.proofs.Common.{◌-◌, length, set, sym, ap, ◌∙◌, ◌≤◌, arith}
+use Rattle.house.proofs.Lines.{room_from, written_more}
 use Rattle.house.proofs.table.CountTableCosts.tell.Goals as goal
 
-pub returns-clause-line : goal.returns-clause-line
-returns-clause-line c =
-    let counts = c.args.cost.now.counts in
-    let told = c.map.ensures.items in
-    let written : c.copy_from_slice.new.self ≡ counts =
-    c.copy_from_slice.ensures.after
-    ∙ mapped_all (λ n. n) counts c.map.result (omega (arith, told.long, c.args.cost.now.whole)) (λ i d h. let k = told.at i d 0 (omega (arith, h, c.args.cost.now.whole)) in search rules)
-    ∙ map-id counts in
-    search (rules, written)
+pub loop-i-preserved : goal.loop-i-preserved
+loop-i-preserved c =
+    let line = c.args.line.now in
+    let room : 24 ≤ length line = (room_from 24 (length line) (length line - 24) c.in_ok-left.left (sym c.left_behind.ensures ∙ c.in_ok-left.was)).0 in
+    ap (λ n. set c.loop-i.line c.loop-i.i n) c.from.ensures
+    ∙ written_more c.args.cost.now.counts c.loop-i.line line c.loop-i.i (omega (arith, c.args.cost.now.whole)) (omega (arith, room)) c.loop-i.invariant
